@@ -1,0 +1,3 @@
+-- Definitions that the contracts cite.
+pub mod Basic
+pub mod Text

@@ -1,0 +1,4 @@
+// Byte leaves.
+pub fn zero() -> u8 {
+    0
+}
