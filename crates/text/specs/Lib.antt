@@ -1,3 +1,4 @@
 -- Definitions that the contracts cite.
 pub mod Basic
 pub mod Text
+pub mod Owed

@@ -1,4 +1,3 @@
-// Byte leaves.
-pub fn zero() -> u8 {
-    0
-}
+// Byte leaves: UTF-8, white space, padding and lines of byte strings.
+pub mod class;
+pub mod utf8;

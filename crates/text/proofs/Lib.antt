@@ -1,0 +1,5 @@
+-- Laws that belong to no one function.
+mod Below
+mod Flags
+mod Owing
+mod Table
