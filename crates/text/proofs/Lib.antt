@@ -3,3 +3,5 @@ mod Below
 mod Flags
 mod Owing
 mod Table
+mod Trimming
+mod WhiteSpace

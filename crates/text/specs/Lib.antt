@@ -2,3 +2,5 @@
 pub mod Basic
 pub mod Text
 pub mod Owed
+pub mod Chars
+pub mod Places

@@ -1,3 +1,4 @@
 // Byte leaves: UTF-8, white space, padding and lines of byte strings.
 pub mod class;
 pub mod utf8;
+pub mod white;
