@@ -4,4 +4,5 @@ mod Flags
 mod Owing
 mod Table
 mod Trimming
+mod Walking
 mod WhiteSpace

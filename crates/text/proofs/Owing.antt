@@ -6,12 +6,12 @@ use mathlib.Core.List.{List, [], _∷_}
 use Prim.Native.Nat.{ℕ, zero, suc, _+_, _-_, _<_, _≤_}
 use native.Mathlib.Omega.{arith}
 use native.Mathlib.Numerals.{add-one}
-use lib.Dec.{eqb, leb}
+use lib.Dec.{eqb}
 use lib.ListN.{length, drop, getD, drop-of-length-le}
 use lib.Seq.{drop-cons}
-use borrow.Author.Tests.{eq-eqb, ne-eqb, eqb-true, le-leb, lt-leb}
+use borrow.Author.Tests.{ne-eqb, eqb-true, le-leb, lt-leb}
 use Rattle.text.specs.Basic.{within, and-true}
-use Rattle.text.specs.Text.{Range, tail, from, follows, leadLength, afterByte, nothingOwed, validFrom, valid}
+use Rattle.text.specs.Text.{Range, follows, leadLength, afterByte, nothingOwed, validFrom, valid}
 use Rattle.text.specs.Owed.{lowestTail, highestTail, tails, tailsFrom, owedOf}
 use Rattle.text.specs.declared.utf8.Owed.{Owed}
 use Rattle.text.specs.declared.utf8.Owed.the-variants.{Wrong, Tails}

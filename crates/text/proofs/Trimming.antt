@@ -4,10 +4,9 @@ use mathlib.Core.Bool.{Bool, true, false, cond, not, _&&_}
 use mathlib.Core.List.{List, [], _∷_, _++_, flatten}
 use Prim.Native.Nat.{ℕ, zero, suc, _+_, _-_, _<_, _≤_}
 use native.Mathlib.Omega.{arith}
-use native.Mathlib.Numerals.{add-one}
 use lib.Dec.{eqb}
 use lib.ListN.{length, take, drop, getD, drop-of-length-le, take-append-drop, length-drop}
-use lib.Seq.{take-all, take-length, take-add, drop-drop, drop-cons, length-take-le}
+use lib.Seq.{take-all, take-length, take-add, drop-drop, drop-cons}
 use borrow.Author.Tests.{eqb-true, eqb-false, not-true, not-false}
 use Rattle.text.specs.Basic.{all, isNil, dropWhile, dropEnd}
 use Rattle.text.specs.Text.{continues, chars, isWhite, trimEnd, trim}
@@ -184,8 +183,8 @@ starting-all {s} {i} q h =
     let z : drop i s ≡ [] = drop-of-length-le s h in
     record { upto = q .upto; kept = z ∙ ap flatten (rw z at (q .same)) }
 
-pub trimmed-both : {s : List ℕ} {e i : ℕ} → TrimmedEnd s e → TrimmedStart (take e s) i → take (e - i) (drop i (take e s)) ≡ trim s
+pub trimmed-both : {s : List ℕ} {e i : ℕ} → TrimmedEnd s e → TrimmedStart (take e s) i → take (length (take e s) - i) (drop i (take e s)) ≡ trim s
 unfolding trim
 trimmed-both {s} {e} {i} t u =
-    take-all (e - i) (drop i (take e s)) (rw (length-drop, length-take-le e s (t .upto)) (omega arith))
+    take-all (length (take e s) - i) (drop i (take e s)) (rw length-drop (omega arith))
     ∙ u .kept ∙ ap (λ (g : List (List ℕ)). flatten (dropWhile isWhite g)) (t .kept)

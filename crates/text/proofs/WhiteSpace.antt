@@ -1,13 +1,13 @@
 -- Which bytes are white space: rules that are tested at each of the 25 code points, and back.
-use mathlib.Core.Path.{_≡_, refl, ap, _∙_, sym}
-use mathlib.Core.Bool.{Bool, true, false, not, _&&_, _||_, false≢true}
+use mathlib.Core.Path.{_≡_, refl, sym}
+use mathlib.Core.Bool.{Bool, true, false, _&&_, _||_, false≢true}
 use mathlib.Core.List.{List, [], _∷_}
 use Prim.Native.Nat.{ℕ, _+_, _*_, _-_, _<_, _≤_}
 use native.Mathlib.Omega.{arith}
 use lib.Dec.{eqb, leb}
 use lib.ListN.{length, getD}
 use borrow.Author.Tests.{eqb-true, leb-true}
-use Rattle.text.specs.Basic.{within, any, all, and-true, sameBytes}
+use Rattle.text.specs.Basic.{any, all, and-true, sameBytes}
 use Rattle.text.specs.Text.{isWhite, whiteSpace, utf8}
 use Rattle.text.proofs.Below.{below}
 

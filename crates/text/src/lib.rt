@@ -1,4 +1,6 @@
 // Byte leaves: UTF-8, white space, padding and lines of byte strings.
 pub mod class;
+pub mod lines;
+pub mod prefix;
 pub mod utf8;
 pub mod white;
