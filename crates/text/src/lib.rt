@@ -1,5 +1,5 @@
 // Byte leaves: UTF-8, white space, padding and lines of byte strings.
-pub mod class;
+mod class;
 pub mod lines;
 pub mod prefix;
 pub mod utf8;

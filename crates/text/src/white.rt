@@ -38,7 +38,7 @@ fn is_white_triple(a: u8, b: u8, c: u8) -> bool
 }
 
 // The bytes are a character that is white space.
-pub fn is_white(g: &[u8]) -> bool
+fn is_white(g: &[u8]) -> bool
     ensures { λ r. ⌜ r ≡ isWhite (now (g .entry)) ⌝ }
 {
     if g.len() == 1 {
