@@ -1,6 +1,6 @@
 -- Characters found in place, and white space taken off the ends of a text.
 use mathlib.Core.Path.{_≡_, refl, ap, _∙_, sym}
-use mathlib.Core.Bool.{Bool, true, false, cond, not, _&&_}
+use mathlib.Core.Bool.{Bool, true, false, not}
 use mathlib.Core.List.{List, [], _∷_, _++_, flatten}
 use Prim.Native.Nat.{ℕ, zero, suc, _+_, _-_, _<_, _≤_}
 use native.Mathlib.Omega.{arith}
@@ -8,8 +8,9 @@ use lib.Dec.{eqb}
 use lib.ListN.{length, take, drop, getD, drop-of-length-le, take-append-drop, length-drop}
 use lib.Seq.{take-all, take-length, take-add, drop-drop, drop-cons}
 use borrow.Author.Tests.{eqb-true, eqb-false, not-true, not-false}
-use Rattle.text.specs.Basic.{all, isNil, dropWhile, dropEnd}
+use Rattle.text.specs.Basic.{all, dropWhile, dropEnd}
 use Rattle.text.specs.Text.{continues, chars, isWhite, trimEnd, trim}
+use Rattle.text.specs.Ends.{dropEnd-white, dropEnd-stop}
 use Rattle.text.specs.Chars.{isTail, flatten-chars, chars-one, chars-append}
 use Rattle.text.specs.Places.{CharFrom, CharUpTo, TrimmedEnd, TrimmedStart}
 
@@ -108,21 +109,6 @@ back-end {s} {e} {j} q h =
     char-upto q (rw z)
 
 -- WHITE SPACE AT THE END
-
-dropEnd-white : (f : List ℕ → Bool) (gs : List (List ℕ)) (g : List ℕ) → f g ≡ true → dropEnd f (gs ++ (g ∷ [])) ≡ dropEnd f gs
-unfolding dropEnd
-dropEnd-white f [] g h = rw h
-dropEnd-white f (x ∷ gs) g h = rw (dropEnd-white f gs g h)
-
-dropEnd-stop : (f : List ℕ → Bool) (gs : List (List ℕ)) (g : List ℕ) → f g ≡ false → dropEnd f (gs ++ (g ∷ [])) ≡ gs ++ (g ∷ [])
-unfolding dropEnd
-dropEnd-stop f [] g h = rw h
-dropEnd-stop f (x ∷ gs) g h = rw (dropEnd-stop f gs g h) (go (f x) gs)
-  where
-    go : (b : Bool) (gs : List (List ℕ)) → cond (b && isNil (gs ++ (g ∷ []))) [] (x ∷ (gs ++ (g ∷ []))) ≡ x ∷ (gs ++ (g ∷ []))
-    go true [] = refl
-    go true (y ∷ ys) = refl
-    go false ys = refl
 
 -- Up to e the text is trimmed as the whole is.
 pub record Trimming (s : List ℕ) (e : ℕ) : Type 0 where

@@ -10,29 +10,10 @@ use lib.ListN.{length, take, drop, getD, drop-of-length-le, length-drop}
 use lib.Seq.{drop-cons, take-all, length-take-le}
 use borrow.Author.Tests.{eq-eqb, ne-eqb, le-leb, lt-leb, not-true, not-false}
 use Rattle.text.specs.Basic.{startsWith, count, firstOr}
+use Rattle.text.specs.Padding.{padding-part, padding-upto}
 use Rattle.text.specs.Text.{isPad, padding, lines, inFirst, lineEnd, endsWith}
 
 -- COMMON PADDING
-
-padding-part : (a b : List ℕ) → take (length (padding a b)) a ≡ padding a b
-unfolding padding
-padding-part [] b = refl
-padding-part (x ∷ a) [] = refl
-padding-part (x ∷ a) (y ∷ b) = go (eqb x y && isPad x) (padding-part a b)
-  where
-    go : (t : Bool) → take (length (padding a b)) a ≡ padding a b → take (length (cond t (x ∷ padding a b) [])) (x ∷ a) ≡ cond t (x ∷ padding a b) []
-    go true h = ap (λ (l : List ℕ). x ∷ l) h
-    go false h = refl
-
-padding-upto : (a b : List ℕ) → length (padding a b) ≤ length a
-unfolding padding
-padding-upto [] b = omega arith
-padding-upto (x ∷ a) [] = omega arith
-padding-upto (x ∷ a) (y ∷ b) = go (eqb x y && isPad x) (padding-upto a b)
-  where
-    go : (t : Bool) → length (padding a b) ≤ length a → length (cond t (x ∷ padding a b) []) ≤ length (x ∷ a)
-    go true h = omega arith
-    go false h = omega arith
 
 pub common-count : {n : ℕ} (a b : List ℕ) → n ≡ length (padding a b) → n ≡ length (take n a)
 common-count a b e = rw (e, length-take-le (length (padding a b)) a (padding-upto a b))

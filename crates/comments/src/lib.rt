@@ -1,0 +1,66 @@
+// The items of comments: `format_comments`, one trivia token or custom error at a time.
+mod block;
+mod plain;
+mod rows;
+
+use items::Printed;
+ghost use mathlib.Core.Path.{_≡_};
+ghost use Rattle.items.specs.Item.{says};
+ghost use Rattle.items.specs.Machine.{held, Prints};
+ghost use Rattle.comments.specs.Comments.{inline, comment};
+ghost use Rattle.comments.specs.Place.{place};
+
+// Where a comment stands.
+pub enum CommentLocation {
+    // Above local, field, other things.
+    AboveItem,
+    // After an item.
+    ItemInline,
+    // After all items of a list.
+    EndOfItems,
+}
+
+// `TriviaKind` in order; every other kind is a custom error.
+const WHITESPACE: u32 = 64;
+
+const MULTI_LINE_COMMENT: u32 = 65;
+
+const ERROR_COMMENT_TOO_SHORT: u32 = 66;
+
+const ERROR_COMMENT_UNTERMINATED: u32 = 67;
+
+const SINGLE_LINE_HASH_COMMENT: u32 = 68;
+
+const SINGLE_LINE_SLASH_COMMENT: u32 = 69;
+
+fn is_inline(loc: CommentLocation) -> bool
+    ensures { λ r. ⌜ r ≡ inline (place loc) ⌝ }
+{
+    match loc {
+        CommentLocation::AboveItem => false,
+        CommentLocation::ItemInline => true,
+        CommentLocation::EndOfItems => false,
+    }
+}
+
+// Prints a trivia token or a custom error, given its kind and its text.
+pub fn format_comment(
+    records: &mut [u32],
+    texts: &mut [u8],
+    kind: u32,
+    s: &[u8],
+    loc: CommentLocation,
+    p: Printed,
+) -> Printed
+    ensures { λ r. ⌜ Prints (says (comment kind (now (s .entry)) (place loc))) (held (now (records .entry)) (now (texts .entry)) p) (held (now (records .exit)) (now (texts .exit)) r) ⌝ }
+{
+    match kind {
+        WHITESPACE => p,
+        MULTI_LINE_COMMENT => block::print_multi_line(records, texts, s, loc, p),
+        ERROR_COMMENT_TOO_SHORT => items::print_text(records, texts, b"/*/", p),
+        ERROR_COMMENT_UNTERMINATED => items::print_text(records, texts, s, p),
+        SINGLE_LINE_HASH_COMMENT => plain::print_hash(records, texts, s, loc, p),
+        SINGLE_LINE_SLASH_COMMENT => plain::print_slash(records, texts, s, loc, p),
+        _ => plain::print_error(records, texts, s, p),
+    }
+}

@@ -1,0 +1,169 @@
+-- What a function that emits one item shows.
+use mathlib.Core.Path.{_≡_, refl, _∙_}
+use mathlib.Core.Bool.{Bool, true, false, cond}
+use mathlib.Core.Option.{none, some}
+use mathlib.Core.List.{List, [], _∷_}
+use Prim.Native.Nat.{ℕ, _+_}
+use mathlib.Core.Logic.{⊎-elim}
+use native.Mathlib.Omega.{arith}
+use native.Mathlib.Nat.{add-zero}
+use native.Mathlib.Numerals.{add-one}
+use denote.Enum.Declared.{tagOf}
+use types.Run.{OneOf}
+use lib.ListN.{length}
+use Rattle.items.specs.declared.Condition.{Condition}
+use Rattle.items.specs.declared.Condition.the-variants.{Always, Lines}
+use Rattle.items.specs.declared.Count.{Count}
+use Rattle.items.specs.declared.Element.{Element}
+use Rattle.items.specs.declared.Entry.{Entry}
+use Rattle.items.specs.declared.Mark.{Mark}
+use Rattle.items.specs.declared.Printed.{Printed}
+use Rattle.items.specs.declared.Printed.the-variants.{Done, Stopped, Full}
+use Rattle.items.specs.declared.Signal.{Signal}
+use Rattle.items.specs.declared.Signal.the-variants.{NewLine, SpaceOrNewLine, Tab, StartIndent, FinishIndent, StartGroup, FinishGroup, StartBlock, FinishBlock, Else, EndIf}
+use Rattle.items.specs.Item.{Item, text, mark, runEnd, again, ifTest, ok, Print, say, stopped, openRun}
+use Rattle.items.specs.Item.{run as item}
+use Rattle.items.specs.Role.{role, isRun}
+use Rattle.items.specs.Records.{recordOf, bytesOf}
+use Rattle.items.specs.Signal.{signalItem, conditionTest}
+use Rattle.items.specs.Machine.{State, store, storeRecord, counted, printable, emitted, emitAll, onward, reaching, finish, run, seen, held, Prints, nextRun}
+use Rattle.items.specs.Laws.{Ended, stops, fills}
+use Rattle.items.specs.Entry.{entryOf, plainEntry, advanced, continued, Emitted}
+use Rattle.items.proofs.Printed.{the-type}
+
+-- the other arm of a `let Printed::Done(c) = p else`
+pub ended : (p : Printed) → OneOf (1 ∷ 2 ∷ []) (tagOf the-type p) → Ended p
+ended (Done c) h = absurd (⊎-elim (λ w. omega arith) (λ w. omega arith) h)
+ended (Stopped e) h = stops e
+ended Full h = fills
+
+never-done : {p : Printed} {c : Count} → Ended p → p ≡ Done c → ⊥
+never-done (stops e) h = let z : _≡_ {A = ℕ} 0 1 = cc in omega arith
+never-done fills h = let z : _≡_ {A = ℕ} 0 1 = cc in omega arith
+
+-- ---- what the function that emits shows
+
+module _ (e : Entry) (rs : List ℕ) where
+  unwritten : (p r : Printed) → r ≡ continued e p → Ended r → Emitted e rs p rs r
+  unwritten p r h n = record { counts = h; words = λ c d _ k. absurd (never-done n k) }
+
+  pub emit-ended : (p : Printed) → Ended p → Emitted e rs p rs p
+  unfolding continued
+  emit-ended p (stops i) = unwritten p p refl (stops i)
+  emit-ended p fills = unwritten p p refl fills
+
+  module _ (p r : Printed) (c : Count) (known : p ≡ Done c) (went : r ≡ advanced e c) where
+    continues : r ≡ continued e p
+    unfolding continued
+    continues = rw known went
+
+    pub emit-full : Ended r → Emitted e rs p rs r
+    emit-full n = unwritten p r continues n
+
+    pub emit-done : (rs′ : List ℕ) → rs′ ≡ storeRecord rs (c .records) (e .kind) (e .first) (e .second) → Emitted e rs p rs′ r
+    emit-done rs′ h = record { counts = continues; words = λ c′ d k _. let q : c ≡ c′ = cc in rw q at h }
+
+-- ---- what the functions that print one item show
+
+-- At the counts c the entry e is that of the item x, the printing q prints x alone, and the texts hold its bytes.
+pub record Shows (q : Print) (x : Item) (e : Entry) (ts ts′ : List ℕ) (c : Count) : Type 0 where
+  pub entry : e ≡ entryOf (c .texts) x
+  pub prints : q (c .runs) ≡ ok (x ∷ []) (c .runs + isRun (role x))
+  pub bytes : ts′ ≡ store ts (c .texts) (bytesOf x)
+
+module _ (q : Print) (x : Item) (e : Entry) (rs ts rs′ ts′ : List ℕ) where
+  advancing : (c : Count) (r : Printed) → Shows q x e ts ts′ c → Emitted e rs (Done c) rs′ r → seen rs′ ts′ r ≡ run q (seen rs ts (Done c))
+  unfolding run seen finish emitAll continued advanced
+  advancing c r s m = rw (s .prints) (go (printable c x) (rw (s .entry) at (m .counts)))
+    where
+      σ : State
+      σ = record { records = rs; texts = ts; count = c }
+
+      go : (t : Bool) → r ≡ cond t (Done (counted c x)) Full → seen rs′ ts′ r ≡ reaching (c .runs + isRun (role x)) (onward (cond t (some (emitted x σ)) none) (emitAll []))
+      go true h = rw (h, m .words c (counted c x) refl h, s .bytes, s .entry)
+      go false h = rw h
+
+  -- an item is printed by the function that emits its entry
+  pub shown :
+      (p r : Printed) → ((c : Count) → p ≡ Done c → Shows q x e ts ts′ c) → Emitted e rs p rs′ r
+      → length rs′ ≡ length rs → length ts′ ≡ length ts → Prints q (held rs ts p) (held rs′ ts′ r)
+  unfolding run seen continued
+  shown (Done c) r s m l₁ l₂ = record { ran = advancing c r (s c refl) m; sameRecords = l₁; sameTexts = l₂ }
+  shown (Stopped e′) r s m l₁ l₂ = record { ran = rw (m .counts); sameRecords = l₁; sameTexts = l₂ }
+  shown Full r s m l₁ l₂ = record { ran = rw (m .counts); sameRecords = l₁; sameTexts = l₂ }
+
+-- The entry e is that of the item x, which has no text and is no run.
+pub record Textless (e : Entry) (x : Item) : Type 0 where
+  pub entry : (at : ℕ) → e ≡ entryOf at x
+  pub bytes : bytesOf x ≡ []
+  pub runs : isRun (role x) ≡ 0
+
+pub said :
+    (x : Item) (e₀ e : Entry) (rs ts rs′ : List ℕ) (p r : Printed) → Emitted e rs p rs′ r → Textless e₀ x → e ≡ e₀ → length rs′ ≡ length rs
+    → Prints (say x) (held rs ts p) (held rs′ ts r)
+unfolding say store
+said x e₀ e rs ts rs′ p r m t h l =
+    shown (say x) x e rs ts rs′ ts p r
+    (λ c _. record { entry = h ∙ t .entry (c .texts); prints = rw (t .runs, add-zero (c .runs)); bytes = rw (t .bytes) }) m l refl
+
+pub said-text :
+    (s rs ts rs′ ts′ : List ℕ) (p r : Printed) (c : Count) → p ≡ Done c → ts′ ≡ store ts (c .texts) s
+    → Emitted (record { kind = 1; first = c .texts; second = length s; bytes = length s; runs = 0; marks = 0 }) rs (Done c) rs′ r
+    → length rs′ ≡ length rs → length ts′ ≡ length ts → Prints (say (text s)) (held rs ts p) (held rs′ ts′ r)
+unfolding say
+said-text s rs ts rs′ ts′ p r c h b m l₁ l₂ =
+    rw h
+    (shown (say (text s)) (text s) _ rs ts rs′ ts′ (Done c) r
+    (λ c′ h′. let q : c ≡ c′ = cc in record { entry = rw q; prints = rw (add-zero (c′ .runs)); bytes = rw q at b }) m l₁ l₂)
+
+pub opened :
+    (rs ts rs′ : List ℕ) (p r : Printed) (k : ℕ) → k ≡ nextRun p → Emitted (record { kind = 12; first = k; second = 0; bytes = 0; runs = 1; marks = 0 }) rs p rs′ r
+    → length rs′ ≡ length rs → Prints openRun (held rs ts p) (held rs′ ts r)
+unfolding openRun nextRun store
+opened rs ts rs′ p r k e m l =
+    shown openRun (item k) _ rs ts rs′ ts p r (λ c h. record { entry = refl; prints = rw (e, h, add-one (c .runs)); bytes = refl }) m l refl
+
+-- ---- items with no text that are no runs
+
+pub mark-textless : (n : ℕ) → Textless (entryOf 0 (mark n)) (mark n)
+mark-textless n = record { entry = λ at. refl; bytes = refl; runs = refl }
+
+pub end-textless : (n : ℕ) → Textless (entryOf 0 (runEnd n)) (runEnd n)
+end-textless n = record { entry = λ at. refl; bytes = refl; runs = refl }
+
+pub again-textless : (n : ℕ) → Textless (entryOf 0 (again n)) (again n)
+again-textless n = record { entry = λ at. refl; bytes = refl; runs = refl }
+
+pub signal-textless : (s : Signal) → Textless (plainEntry (recordOf 0 (signalItem s) .kind) 0 0) (signalItem s)
+signal-textless NewLine = record { entry = λ at. refl; bytes = refl; runs = refl }
+signal-textless SpaceOrNewLine = record { entry = λ at. refl; bytes = refl; runs = refl }
+signal-textless Tab = record { entry = λ at. refl; bytes = refl; runs = refl }
+signal-textless StartIndent = record { entry = λ at. refl; bytes = refl; runs = refl }
+signal-textless FinishIndent = record { entry = λ at. refl; bytes = refl; runs = refl }
+signal-textless StartGroup = record { entry = λ at. refl; bytes = refl; runs = refl }
+signal-textless FinishGroup = record { entry = λ at. refl; bytes = refl; runs = refl }
+signal-textless StartBlock = record { entry = λ at. refl; bytes = refl; runs = refl }
+signal-textless FinishBlock = record { entry = λ at. refl; bytes = refl; runs = refl }
+signal-textless Else = record { entry = λ at. refl; bytes = refl; runs = refl }
+signal-textless EndIf = record { entry = λ at. refl; bytes = refl; runs = refl }
+
+pub condition-textless : (t : Condition) → Textless (entryOf 0 (ifTest (conditionTest t))) (ifTest (conditionTest t))
+condition-textless Always = record { entry = λ at. refl; bytes = refl; runs = refl }
+condition-textless (Lines m) = record { entry = λ at. refl; bytes = refl; runs = refl }
+
+pub always-entry : (t : Condition) → t ≡ Always → plainEntry 15 0 0 ≡ entryOf 0 (ifTest (conditionTest t))
+always-entry t h = rw h
+
+pub lines-entry : (t : Condition) (m : Mark) → t ≡ Lines m → plainEntry 15 1 (m .0) ≡ entryOf 0 (ifTest (conditionTest t))
+lines-entry t m h = rw h
+
+-- ---- functions that are lent no buffer
+
+pub ended-next : (p : Printed) → Ended p → 0 ≡ nextRun p
+unfolding nextRun
+ended-next p (stops e) = refl
+ended-next p fills = refl
+
+pub stopping : (e : Element) (rs ts : List ℕ) (p : Printed) (c : Count) → p ≡ Done c → Prints (stopped (e .0)) (held rs ts p) (held rs ts (Stopped e))
+unfolding run seen stopped finish emitAll
+stopping e rs ts p c h = record { ran = rw h; sameRecords = refl; sameTexts = refl }

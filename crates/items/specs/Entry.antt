@@ -1,0 +1,41 @@
+-- What the one function that emits is handed and promises. Only contracts of private functions cite this.
+use mathlib.Core.Path.{_≡_}
+use mathlib.Core.Bool.{cond}
+use mathlib.Core.List.{List}
+use Prim.Native.Nat.{ℕ}
+use lib.ListN.{length}
+use Rattle.items.specs.declared.Count.{Count}
+use Rattle.items.specs.declared.Entry.{Entry}
+use Rattle.items.specs.declared.Printed.{Printed}
+use Rattle.items.specs.declared.Printed.the-variants.{Done, Stopped, Full}
+use Rattle.items.specs.Item.{Item}
+use Rattle.items.specs.Role.{role, isRun, isMark}
+use Rattle.items.specs.Records.{recordOf, bytesOf}
+use Rattle.items.specs.Machine.{storeRecord, grown, countable}
+
+-- an item's entry, where its text would stand at this offset
+abbrev pub entryOf : ℕ → Item → Entry
+entryOf at x =
+    let r = recordOf at x in
+    record { kind = r .kind; first = r .first; second = r .second; bytes = length (bytesOf x); runs = isRun (role x); marks = isMark (role x) }
+
+-- an entry that counts as a record alone
+abbrev pub plainEntry : ℕ → ℕ → ℕ → Entry
+plainEntry kind first second = record { kind = kind; first = first; second = second; bytes = 0; runs = 0; marks = 0 }
+
+-- printing goes on by an entry, or is full
+unfoldable pub advanced : Entry → Count → Printed
+advanced e c =
+    let d = grown c (e .bytes) (e .runs) (e .marks) in
+    cond (countable (e .first) (e .second) d) (Done d) Full
+
+-- printing goes on only where it has neither stopped nor become full
+unfoldable pub continued : Entry → Printed → Printed
+continued e (Done c) = advanced e c
+continued e (Stopped s) = Stopped s
+continued e Full = Full
+
+-- Printing goes on from p to r by an entry, whose record stands in the buffer if the counts went on.
+pub record Emitted (e : Entry) (rs : List ℕ) (p : Printed) (rs′ : List ℕ) (r : Printed) : Type 0 where
+  pub counts : r ≡ continued e p
+  pub words : (c d : Count) → p ≡ Done c → r ≡ Done d → rs′ ≡ storeRecord rs (c .records) (e .kind) (e .first) (e .second)

@@ -1,0 +1,209 @@
+-- What a whole printing leaves in the lent buffers and the counts.
+use mathlib.Core.Path.{_≡_, refl, sym, ap, _∙_}
+use mathlib.Core.Bool.{Bool, true, false, cond, _&&_}
+use mathlib.Core.Option.{Option, none, some}
+use mathlib.Core.List.{List, [], _∷_, _++_}
+use Prim.Native.Nat.{ℕ, suc, _+_, _*_, _≤_, _<_, _^_}
+use native.Mathlib.Omega.{arith}
+use native.Mathlib.Nat.{add-zero, zero-add}
+use lib.ListN.{length, set, length-append}
+use lib.Seq.{sets-eq}
+use borrow.Author.Tests.{lt-ltb}
+use Rattle.text.specs.Basic.{sum, all, All, ∅, _▹_}
+use Rattle.items.specs.declared.Printed.{Printed}
+use Rattle.items.specs.declared.Printed.the-variants.{Done}
+use Rattle.items.specs.Item.{always, lines, Item, text, newline, spaceOrNewline, tab, indent, outdent, mark, group, groupEnd, block, blockEnd, runEnd, again, ifTest, elseItem, endIf, Out, stop, ok, Print, itemsOf}
+use Rattle.items.specs.Item.{run as opening}
+use Rattle.items.specs.Role.{role, isRun, isMark, runsOf, marksOf}
+use Rattle.items.specs.Records.{recordOf, bytesOf, words, bytes, Counts, countsOf, overlaid, words-length}
+use Rattle.items.specs.Machine.{State, store, counted, fit, printable, emitted, emitAll, onward, Outcome, halted, reached, halting, reaching, finish, run, seen, Held, held, outcome, Prints, noCounts, starting}
+
+-- ---- stores
+
+store-append : (us vs buffer : List ℕ) (at : ℕ) → store (store buffer at us) (at + length us) vs ≡ store buffer at (us ++ vs)
+unfolding store
+store-append [] vs buffer at = rw (add-zero at)
+store-append (u ∷ us) vs buffer at =
+    let n : at + suc (length us) ≡ suc at + length us = omega arith in
+    rw n (store-append us vs (set buffer at u) (suc at))
+
+-- what is stored from the start of a buffer with room lies over it
+store-overlaid : (vs buffer : List ℕ) → length vs ≤ length buffer → store buffer 0 vs ≡ overlaid vs buffer
+unfolding store
+store-overlaid vs buffer h = rw (zero-add (length vs)) at (sets-eq vs buffer 0 (rw (zero-add (length vs)) h))
+
+-- nothing is stored in a buffer without room
+store-empty : (vs : List ℕ) (at : ℕ) → store [] at vs ≡ []
+unfolding store
+store-empty [] at = refl
+store-empty (v ∷ vs) at = store-empty vs (suc at)
+
+-- ---- all items from a state
+
+-- the state after all items, where their numbers fit
+abbrev allEmitted : List Item → State → State
+allEmitted xs σ =
+    let c = σ .count in
+    record {
+      records = store (σ .records) (3 * c .records) (words (c .texts) xs);
+      texts = store (σ .texts) (c .texts) (bytes xs);
+      count = record { records = c .records + length xs; texts = c .texts + length (bytes xs); runs = c .runs + runsOf xs; marks = c .marks + marksOf xs };
+    }
+
+-- the numbers of all items fit, from these counts on
+unfoldable allFit : List Item → Counts → Bool
+allFit [] c = true
+allFit (x ∷ xs) c = printable c x && allFit xs (counted c x)
+
+allEmitted-nil : (σ : State) → σ ≡ allEmitted [] σ
+unfolding store words bytes sum
+allEmitted-nil σ = rw (add-zero (σ .count .records), add-zero (σ .count .texts), add-zero (σ .count .runs), add-zero (σ .count .marks))
+
+allEmitted-cons : (x : Item) (xs : List Item) (σ : State) → allEmitted xs (emitted x σ) ≡ allEmitted (x ∷ xs) σ
+unfolding words bytes sum
+allEmitted-cons x xs σ =
+    let c = σ .count in
+    let r = recordOf (c .texts) x in
+    let e₀ : 3 * (c .records + 1) ≡ 3 * c .records + 3 = omega arith in
+    let e₁ : c .records + 1 + length xs ≡ c .records + suc (length xs) = omega arith in
+    let e₂ : c .texts + length (bytesOf x) + length (bytes xs) ≡ c .texts + length (bytesOf x ++ bytes xs) = rw (length-append (bytesOf x) (bytes xs)) (omega arith) in
+    let e₃ : c .runs + isRun (role x) + runsOf xs ≡ c .runs + (isRun (role x) + runsOf xs) = omega arith in
+    let e₄ : c .marks + isMark (role x) + marksOf xs ≡ c .marks + (isMark (role x) + marksOf xs) = omega arith in
+    rw (e₀, store-append (r .kind ∷ r .first ∷ r .second ∷ []) (words (c .texts + length (bytesOf x)) xs) (σ .records) (3 * c .records), store-append (bytesOf x) (bytes xs) (σ .texts) (c .texts), e₁, e₂, e₃, e₄)
+
+all-emitted : (xs : List Item) (σ : State) → emitAll xs σ ≡ cond (allFit xs (σ .count)) (some (allEmitted xs σ)) none
+unfolding emitAll allFit
+all-emitted [] σ = ap some (allEmitted-nil σ)
+all-emitted (x ∷ xs) σ = step (printable (σ .count) x) (rw (allEmitted-cons x xs σ) at (all-emitted xs (emitted x σ)))
+  where
+    step :
+        (t : Bool) → emitAll xs (emitted x σ) ≡ cond (allFit xs (counted (σ .count) x)) (some (allEmitted (x ∷ xs) σ)) none
+        → onward (cond t (some (emitted x σ)) none) (emitAll xs) ≡ cond (t && allFit xs (counted (σ .count) x)) (some (allEmitted (x ∷ xs) σ)) none
+    step true h = h
+    step false h = refl
+
+-- ---- items whose numbers fit
+
+-- the numbers that an item's record holds, but for a text's offset, are u32s
+abbrev pub Short : Item → Type 0
+Short x = (recordOf 0 x .first < 2 ^ 32) × (recordOf 0 x .second < 2 ^ 32)
+
+-- The items can all be printed: the numbers that they name and the four counts are u32s.
+pub record Fits (xs : List Item) : Type 0 where
+  pub operands : All Short xs
+  pub records : length xs < 2 ^ 32
+  pub texts : length (bytes xs) < 2 ^ 32
+  pub runs : runsOf xs < 2 ^ 32
+  pub marks : marksOf xs < 2 ^ 32
+
+pub fit-true : {ns : List ℕ} → All (λ n. n < 2 ^ 32) ns → fit ns ≡ true
+unfolding fit all
+fit-true ∅ = refl
+fit-true (_▹_ {x = n} h p) = rw (lt-ltb n (2 ^ 32) h, fit-true p)
+
+-- the operands fit at any offset that fits
+short-at : (at : ℕ) (x : Item) → at < 2 ^ 32 → Short x → (recordOf at x .first < 2 ^ 32) × (recordOf at x .second < 2 ^ 32)
+short-at at (text s) h k = (h, k .1)
+short-at at newline h k = k
+short-at at spaceOrNewline h k = k
+short-at at tab h k = k
+short-at at indent h k = k
+short-at at outdent h k = k
+short-at at (mark n) h k = k
+short-at at group h k = k
+short-at at groupEnd h k = k
+short-at at block h k = k
+short-at at blockEnd h k = k
+short-at at (opening n) h k = k
+short-at at (runEnd n) h k = k
+short-at at (again n) h k = k
+short-at at (ifTest always) h k = k
+short-at at (ifTest (lines n)) h k = k
+short-at at elseItem h k = k
+short-at at endIf h k = k
+
+all-fit :
+    (xs : List Item) (c : Counts) → All Short xs → c .records + length xs < 2 ^ 32 → c .texts + length (bytes xs) < 2 ^ 32
+    → c .runs + runsOf xs < 2 ^ 32 → c .marks + marksOf xs < 2 ^ 32 → allFit xs c ≡ true
+unfolding allFit bytes sum
+all-fit [] c ∅ h₁ h₂ h₃ h₄ = refl
+all-fit (x ∷ xs) c (k ▹ p) h₁ h₂ h₃ h₄ =
+    let e = length-append (bytesOf x) (bytes xs) in
+    let s = short-at (c .texts) x (omega arith) k in
+    let f : printable c x ≡ true = fit-true (s .0 ▹ s .1 ▹ omega arith ▹ omega arith ▹ omega arith ▹ omega arith ▹ ∅) in
+    rw f (all-fit xs (counted c x) p (omega arith) (omega arith) (omega arith) (omega arith))
+
+-- ---- whole printings, from the start
+
+-- the lent buffers and the counts after items from the start
+abbrev pub written : List ℕ → List ℕ → List Item → State
+written rs ts xs = record { records = store rs 0 (words 0 xs); texts = store ts 0 (bytes xs); count = countsOf xs }
+
+-- what items make of the start, whatever the buffers
+abbrev begun : List ℕ → List ℕ → List Item → Option State
+begun rs ts xs = cond (allFit xs noCounts) (some (written rs ts xs)) none
+
+-- what a printing makes of the start
+abbrev outcomeOf : List ℕ → List ℕ → Out → Outcome
+outcomeOf rs ts (stop xs e) = halting e (begun rs ts xs)
+outcomeOf rs ts (ok xs k) = reaching k (begun rs ts xs)
+
+run-start : (p : Print) (rs ts : List ℕ) → run p (starting rs ts) ≡ outcomeOf rs ts (p 0)
+unfolding run finish
+run-start p rs ts = go (p 0)
+  where
+    σ : State
+    σ = record { records = rs; texts = ts; count = noCounts }
+
+    items : (xs : List Item) → emitAll xs σ ≡ begun rs ts xs
+    items xs = rw (zero-add (length xs), zero-add (length (bytes xs)), zero-add (runsOf xs), zero-add (marksOf xs)) at (all-emitted xs σ)
+
+    go : (o : Out) → finish σ o ≡ outcomeOf rs ts o
+    go (stop xs e) = ap (halting e) (items xs)
+    go (ok xs k) = ap (reaching k) (items xs)
+
+fits-start : (xs : List Item) → Fits xs → allFit xs noCounts ≡ true
+fits-start xs f =
+    all-fit xs noCounts (f .operands) (rw (zero-add (length xs)) (f .records)) (rw (zero-add (length (bytes xs))) (f .texts))
+    (rw (zero-add (runsOf xs)) (f .runs)) (rw (zero-add (marksOf xs)) (f .marks))
+
+-- a printing whose items fit comes to its end, with the records and texts in buffers of any size, as far as there is room
+pub run-fitting : (p : Print) (xs : List Item) (k : ℕ) (rs ts : List ℕ) → p 0 ≡ ok xs k → Fits xs → run p (starting rs ts) ≡ reached (written rs ts xs) k
+run-fitting p xs k rs ts e f = run-start p rs ts ∙ rw (e, fits-start xs f)
+
+-- buffers with room hold the words of the records and the bytes of the texts, and go on as they were
+pub run-room :
+    (p : Print) (xs : List Item) (k : ℕ) (rs ts : List ℕ) → p 0 ≡ ok xs k → Fits xs → 3 * length xs ≤ length rs → length (bytes xs) ≤ length ts
+    → run p (starting rs ts) ≡ reached (record { records = overlaid (words 0 xs) rs; texts = overlaid (bytes xs) ts; count = countsOf xs }) k
+run-room p xs k rs ts e f h₁ h₂ = run-fitting p xs k rs ts e f ∙ rw (store-overlaid (words 0 xs) rs (rw (words-length 0 xs) h₁), store-overlaid (bytes xs) ts h₂)
+
+-- empty buffers stay empty, and all is counted
+pub run-empty : (p : Print) (xs : List Item) (k : ℕ) → p 0 ≡ ok xs k → Fits xs → run p (starting [] []) ≡ reached (record { records = []; texts = []; count = countsOf xs }) k
+run-empty p xs k e f = run-fitting p xs k [] [] e f ∙ rw (store-empty (words 0 xs) 0, store-empty (bytes xs) 0)
+
+-- a printing that stops after items that fit stops at its element
+pub run-stopping : (p : Print) (xs : List Item) (e : ℕ) (rs ts : List ℕ) → p 0 ≡ stop xs e → Fits xs → run p (starting rs ts) ≡ halted e
+run-stopping p xs e rs ts h f = run-start p rs ts ∙ rw (h, fits-start xs f)
+
+-- a printing that comes to its end in some buffers has printed all its items, and counted them exactly
+pub run-reached :
+    (p : Print) (rs ts : List ℕ) (σ : State) (k : ℕ) → run p (starting rs ts) ≡ reached σ k
+    → (p 0 ≡ ok (itemsOf (p 0)) k) × (σ ≡ written rs ts (itemsOf (p 0)))
+run-reached p rs ts σ k h = go (p 0) (sym (run-start p rs ts) ∙ h)
+  where
+    taken : (xs : List Item) (j : ℕ) (t : Bool) → reaching j (cond t (some (written rs ts xs)) none) ≡ reached σ k → (ok xs j ≡ ok xs k) × (σ ≡ written rs ts xs)
+    taken xs j true e = (cc, cc)
+    taken xs j false e = let z : _≡_ {A = ℕ} 0 1 = cc in absurd (omega arith)
+
+    halts : (xs : List Item) (e : ℕ) (t : Bool) → halting e (cond t (some (written rs ts xs)) none) ≡ reached σ k → ⊥
+    halts xs e true h = let z : _≡_ {A = ℕ} 0 1 = cc in omega arith
+    halts xs e false h = let z : _≡_ {A = ℕ} 0 1 = cc in omega arith
+
+    go : (o : Out) → outcomeOf rs ts o ≡ reached σ k → (o ≡ ok (itemsOf o) k) × (σ ≡ written rs ts (itemsOf o))
+    go (stop xs e) h = absurd (halts xs e (allFit xs noCounts) h)
+    go (ok xs j) h = taken xs j (allFit xs noCounts) h
+
+-- what a printer leaves that began with nothing printed
+pub from-start : {q : Print} {rs ts : List ℕ} {p : Printed} {a : Held} → p ≡ Done noCounts → Prints q (held rs ts p) a → outcome a ≡ run q (starting rs ts)
+unfolding seen
+from-start h k = rw h at (k .ran)

@@ -1,0 +1,87 @@
+-- Print items, and printing as a function of the next list's number.
+use mathlib.Core.Bool.{Bool, true, false}
+use mathlib.Core.List.{List, [], _∷_, _++_}
+use Prim.Native.Nat.{ℕ, suc}
+use Prim.Native.String.{String}
+use Rattle.text.specs.Basic.{ascii}
+
+-- What a condition tests: '0 always; or 1 and a start mark s: lines of marks s and s+1 differ'.
+pub data Test : Type 0 where
+  always : Test
+  lines : ℕ → Test
+
+-- 'Records': the seventeen kinds in order, a text by its bytes.
+pub data Item : Type 0 where
+  text : List ℕ → Item
+  newline spaceOrNewline tab indent outdent : Item
+  mark : ℕ → Item
+  group groupEnd block blockEnd : Item
+  run runEnd again : ℕ → Item
+  ifTest : Test → Item
+  elseItem endIf : Item
+
+-- What a printing gives: the items until it stops and the element at which the Rust stops, or all items and the next list's number.
+pub data Out : Type 0 where
+  stop : List Item → ℕ → Out
+  ok : List Item → ℕ → Out
+
+-- A printing, from the next list's number.
+abbrev pub Print : Type 0
+Print = ℕ → Out
+
+-- the items that a printing gives, all of them or until it stops
+abbrev pub itemsOf : Out → List Item
+itemsOf (stop xs e) = xs
+itemsOf (ok xs k) = xs
+
+-- items in front of what a printing gives
+abbrev pub after : List Item → Out → Out
+after xs (stop ys e) = stop (xs ++ ys) e
+after xs (ok ys k) = ok (xs ++ ys) k
+
+-- a printing behind what another has given
+abbrev pub next : Out → Print → Out
+next (stop xs e) q = stop xs e
+next (ok xs k) q = after xs (q k)
+
+infixr 40 _⨟_
+-- one printing and then another
+unfoldable pub _⨟_ : Print → Print → Print
+_⨟_ p q k = next (p k) q
+
+-- prints nothing
+unfoldable pub none : Print
+none k = ok [] k
+
+-- prints one item
+unfoldable pub say : Item → Print
+say x k = ok (x ∷ []) k
+
+-- prints items
+unfoldable pub says : List Item → Print
+says xs k = ok xs k
+
+-- stops at an element
+unfoldable pub stopped : ℕ → Print
+stopped e k = stop [] e
+
+-- prints a text that stands in the formatter itself: str(..)
+unfoldable pub lit : String → Print
+lit s = say (text (ascii s))
+
+-- prints only where the test holds
+unfoldable pub when : Bool → Print → Print
+when true p = p
+when false p = none
+
+-- a printing that knows the number of the list that it begins
+unfoldable pub numbered : (ℕ → Print) → Print
+numbered f k = f k k
+
+-- begins the run of the next list, and so takes its number
+unfoldable pub openRun : Print
+openRun k = ok (run k ∷ []) (suc k)
+
+-- a printing whose lists are numbered from n
+unfoldable pub startingAt : ℕ → Print → Print
+startingAt n p k = p n

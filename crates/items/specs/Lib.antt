@@ -1,0 +1,9 @@
+-- Definitions that the contracts cite, and the laws that callers cite.
+pub mod Item
+pub mod Role
+pub mod Records
+pub mod Signal
+pub mod Machine
+pub mod Laws
+pub mod Fitting
+pub mod Entry

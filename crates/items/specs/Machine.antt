@@ -1,0 +1,141 @@
+-- The effect of items on the lent buffers and the four counts, and the contract of every printer.
+use mathlib.Core.Path.{_≡_}
+use mathlib.Core.Bool.{Bool, cond}
+use mathlib.Core.Option.{Option, none, some}
+use mathlib.Core.List.{List, [], _∷_}
+use Prim.Native.Nat.{ℕ, _+_, _*_, _^_}
+use lib.Dec.{ltb}
+use lib.ListN.{length}
+use lib.Seq.{sets}
+use Rattle.text.specs.Basic.{all}
+use Rattle.items.specs.declared.Printed.{Printed}
+use Rattle.items.specs.declared.Printed.the-variants.{Done, Stopped, Full}
+use Rattle.items.specs.Item.{Item, Out, stop, ok, Print}
+use Rattle.items.specs.Role.{role, isRun, isMark}
+use Rattle.items.specs.Records.{recordOf, bytesOf, Counts}
+
+-- The lent buffers, and the four counts of what was printed.
+pub record State : Type 0 where
+  pub records : List ℕ
+  pub texts : List ℕ
+  pub count : Counts
+
+-- a buffer with values stored one by one from a place on; one past its end is dropped: `set` out of range changes nothing
+unfoldable pub store : List ℕ → ℕ → List ℕ → List ℕ
+store buffer at vs = sets buffer at vs
+
+-- 'Three u32 each': a record at its place, the n-th from 0
+abbrev pub storeRecord : List ℕ → ℕ → ℕ → ℕ → ℕ → List ℕ
+storeRecord buffer n kind first second = store buffer (3 * n) (kind ∷ first ∷ second ∷ [])
+
+-- the counts after one record more, with so many text bytes, runs and marks
+abbrev pub grown : Counts → ℕ → ℕ → ℕ → Counts
+grown c bytes runs marks = record { records = c .records + 1; texts = c .texts + bytes; runs = c .runs + runs; marks = c .marks + marks }
+
+-- the counts after an item
+abbrev pub counted : Counts → Item → Counts
+counted c x = grown c (length (bytesOf x)) (isRun (role x)) (isMark (role x))
+
+-- each of the numbers is a u32
+unfoldable pub fit : List ℕ → Bool
+fit ns = all (λ n. ltb n (2 ^ 32)) ns
+
+-- the two operands of a record and the counts after it are u32s
+abbrev pub countable : ℕ → ℕ → Counts → Bool
+countable first second c = fit (first ∷ second ∷ c .records ∷ c .texts ∷ c .runs ∷ c .marks ∷ [])
+
+-- an item can be printed after these counts
+abbrev pub printable : Counts → Item → Bool
+printable c x = let r = recordOf (c .texts) x in countable (r .first) (r .second) (counted c x)
+
+-- the state after an item: its record at the end of the records, its text at the end of the texts
+abbrev pub emitted : Item → State → State
+emitted x σ =
+    let c = σ .count in
+    let r = recordOf (c .texts) x in
+    record {
+      records = storeRecord (σ .records) (c .records) (r .kind) (r .first) (r .second);
+      texts = store (σ .texts) (c .texts) (bytesOf x);
+      count = counted c x;
+    }
+
+-- one item, where its numbers fit
+abbrev pub emit1 : Item → State → Option State
+emit1 x σ = cond (printable (σ .count) x) (some (emitted x σ)) none
+
+-- goes on from a state, where there is one
+abbrev pub onward : Option State → (State → Option State) → Option State
+onward none f = none
+onward (some σ) f = f σ
+
+-- all items in turn
+unfoldable pub emitAll : List Item → State → Option State
+emitAll [] σ = some σ
+emitAll (x ∷ xs) σ = onward (emit1 x σ) (emitAll xs)
+
+-- How far printing has come: stopped at an element, a number no longer fits, or a state and the next list's number.
+pub data Outcome : Type 0 where
+  halted : ℕ → Outcome
+  full : Outcome
+  reached : State → ℕ → Outcome
+
+-- stopped at an element, where all items before it fit
+abbrev pub halting : ℕ → Option State → Outcome
+halting e none = full
+halting e (some σ) = halted e
+
+-- at a state, where all items before it fit
+abbrev pub reaching : ℕ → Option State → Outcome
+reaching k none = full
+reaching k (some σ) = reached σ k
+
+-- what a printing's items make of a state
+unfoldable pub finish : State → Out → Outcome
+finish σ (stop xs e) = halting e (emitAll xs σ)
+finish σ (ok xs k) = reaching k (emitAll xs σ)
+
+-- what a printing makes of an outcome
+unfoldable pub run : Print → Outcome → Outcome
+run p (halted e) = halted e
+run p full = full
+run p (reached σ k) = finish σ (p k)
+
+-- what the code's answer and the buffers say: the next list's number is the count of runs
+unfoldable pub seen : List ℕ → List ℕ → Printed → Outcome
+seen rs ts (Done c) = reached (record { records = rs; texts = ts; count = c }) (c .runs)
+seen rs ts (Stopped e) = halted (e .0)
+seen rs ts Full = full
+
+-- What a printer is handed and what it leaves: the lent buffers, and how far printing has come.
+pub record Held : Type 0 where
+  pub records : List ℕ
+  pub texts : List ℕ
+  pub printed : Printed
+
+-- the two buffers and the answer
+abbrev pub held : List ℕ → List ℕ → Printed → Held
+held rs ts p = record { records = rs; texts = ts; printed = p }
+
+-- what is seen of them
+abbrev pub outcome : Held → Outcome
+outcome h = seen (h .records) (h .texts) (h .printed)
+
+-- Every printer's contract: printing q takes o to a, in buffers that keep their lengths.
+pub record Prints (q : Print) (o a : Held) : Type 0 where
+  pub ran : outcome a ≡ run q (outcome o)
+  pub sameRecords : length (a .records) ≡ length (o .records)
+  pub sameTexts : length (a .texts) ≡ length (o .texts)
+
+-- the number that the next list gets, 0 where printing does not go on
+unfoldable pub nextRun : Printed → ℕ
+nextRun (Done c) = c .runs
+nextRun (Stopped e) = 0
+nextRun Full = 0
+
+-- no counts yet
+abbrev pub noCounts : Counts
+noCounts = record { records = 0; texts = 0; runs = 0; marks = 0 }
+
+-- before the first item
+abbrev pub starting : List ℕ → List ℕ → Outcome
+starting rs ts = reached (record { records = rs; texts = ts; count = noCounts }) 0

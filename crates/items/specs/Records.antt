@@ -1,0 +1,186 @@
+-- The record form of items, the four counts, and the way back.
+use mathlib.Core.Path.{_≡_, refl}
+use mathlib.Core.Bool.{cond, _&&_}
+use mathlib.Core.Option.{Option, none, some}
+use mathlib.Core.List.{List, [], _∷_, _++_, append-assoc}
+use Prim.Native.Nat.{ℕ, zero, suc, _+_, _*_}
+use native.Mathlib.Omega.{arith}
+use lib.Dec.{leb, eqb}
+use lib.ListN.{length, drop, take, length-append}
+use lib.Seq.{drop-append-seam, take-append-seam}
+use borrow.Author.Tests.{le-leb}
+use Rattle.items.specs.declared.Count.{Count}
+use Rattle.items.specs.Item.{always, lines, Item, text, newline, spaceOrNewline, tab, indent, outdent, mark, group, groupEnd, block, blockEnd, run, runEnd, again, ifTest, elseItem, endIf}
+use Rattle.items.specs.Role.{runsOf, marksOf}
+
+-- 'Three u32 each: kind and two operands'
+pub record Record : Type 0 where
+  pub kind : ℕ
+  pub first : ℕ
+  pub second : ℕ
+
+-- a record by its three numbers
+abbrev pub three : ℕ → ℕ → ℕ → Record
+three k a b = record { kind = k; first = a; second = b }
+
+-- an item's record, where its text would stand at this offset: '0 where unused'
+abbrev pub recordOf : ℕ → Item → Record
+recordOf at (text s) = three 1 at (length s)
+recordOf at newline = three 2 0 0
+recordOf at spaceOrNewline = three 3 0 0
+recordOf at tab = three 4 0 0
+recordOf at indent = three 5 0 0
+recordOf at outdent = three 6 0 0
+recordOf at (mark n) = three 7 n 0
+recordOf at group = three 8 0 0
+recordOf at groupEnd = three 9 0 0
+recordOf at block = three 10 0 0
+recordOf at blockEnd = three 11 0 0
+recordOf at (run n) = three 12 n 0
+recordOf at (runEnd n) = three 13 n 0
+recordOf at (again n) = three 14 n 0
+recordOf at (ifTest always) = three 15 0 0
+recordOf at (ifTest (lines n)) = three 15 1 n
+recordOf at elseItem = three 16 0 0
+recordOf at endIf = three 17 0 0
+
+-- an item's text
+abbrev pub bytesOf : Item → List ℕ
+bytesOf (text s) = s
+bytesOf newline = []
+bytesOf spaceOrNewline = []
+bytesOf tab = []
+bytesOf indent = []
+bytesOf outdent = []
+bytesOf (mark n) = []
+bytesOf group = []
+bytesOf groupEnd = []
+bytesOf block = []
+bytesOf blockEnd = []
+bytesOf (run n) = []
+bytesOf (runEnd n) = []
+bytesOf (again n) = []
+bytesOf (ifTest t) = []
+bytesOf elseItem = []
+bytesOf endIf = []
+
+-- the words of the record buffer, from this text offset on
+unfoldable pub words : ℕ → List Item → List ℕ
+words at [] = []
+words at (x ∷ xs) = let r = recordOf at x in r .kind ∷ r .first ∷ r .second ∷ words (at + length (bytesOf x)) xs
+
+-- the bytes of the text buffer: 'texts appended in record order'
+unfoldable pub bytes : List Item → List ℕ
+bytes [] = []
+bytes (x ∷ xs) = bytesOf x ++ bytes xs
+
+-- 'all of them, the bytes of their texts, the `run`s, the `mark`s'
+abbrev pub Counts : Type 0
+Counts = Count
+
+-- the four counts of a list of items
+abbrev pub countsOf : List Item → Counts
+countsOf xs = record { records = length xs; texts = length (bytes xs); runs = runsOf xs; marks = marksOf xs }
+
+-- a lent buffer after a call that writes xs: it begins with xs and goes on as it was
+abbrev pub overlaid : List ℕ → List ℕ → List ℕ
+overlaid xs buffer = xs ++ drop (length xs) buffer
+
+-- THE WAY BACK
+
+-- an item with no operands
+abbrev pub bare : Item → ℕ → ℕ → Option Item
+bare x a b = cond (eqb a 0 && eqb b 0) (some x) none
+
+-- an item with one operand
+abbrev pub numbered : (ℕ → Item) → ℕ → ℕ → Option Item
+numbered f a b = cond (eqb b 0) (some (f a)) none
+
+-- a condition
+abbrev pub condition : ℕ → ℕ → Option Item
+condition a b =
+    cond (eqb a 0) (cond (eqb b 0) (some (ifTest always)) none)
+    (cond (eqb a 1) (some (ifTest (lines b))) none)
+
+-- a text by its offset and length in the text buffer
+abbrev pub stored : List ℕ → ℕ → ℕ → Option Item
+stored ts a b = cond (leb (a + b) (length ts)) (some (text (take b (drop a ts)))) none
+
+-- the item of a record
+unfoldable pub itemOf : List ℕ → ℕ → ℕ → ℕ → Option Item
+itemOf ts k a b =
+    cond (eqb k 1) (stored ts a b)
+    (cond (eqb k 2) (bare newline a b)
+    (cond (eqb k 3) (bare spaceOrNewline a b)
+    (cond (eqb k 4) (bare tab a b)
+    (cond (eqb k 5) (bare indent a b)
+    (cond (eqb k 6) (bare outdent a b)
+    (cond (eqb k 7) (numbered mark a b)
+    (cond (eqb k 8) (bare group a b)
+    (cond (eqb k 9) (bare groupEnd a b)
+    (cond (eqb k 10) (bare block a b)
+    (cond (eqb k 11) (bare blockEnd a b)
+    (cond (eqb k 12) (numbered run a b)
+    (cond (eqb k 13) (numbered runEnd a b)
+    (cond (eqb k 14) (numbered again a b)
+    (cond (eqb k 15) (condition a b)
+    (cond (eqb k 16) (bare elseItem a b)
+    (cond (eqb k 17) (bare endIf a b)
+    none))))))))))))))))
+
+-- an item in front of others, where both are there
+abbrev pub cons : Option Item → Option (List Item) → Option (List Item)
+cons none ys = none
+cons (some x) none = none
+cons (some x) (some ys) = some (x ∷ ys)
+
+-- the items of n records, from the words of the record buffer and the bytes of the text buffer
+unfoldable pub decoded : List ℕ → List ℕ → ℕ → Option (List Item)
+decoded ws ts zero = some []
+decoded [] ts (suc n) = none
+decoded (k ∷ []) ts (suc n) = none
+decoded (k ∷ a ∷ []) ts (suc n) = none
+decoded (k ∷ a ∷ b ∷ ws) ts (suc n) = cons (itemOf ts k a b) (decoded ws ts n)
+
+stored-is : (p s r : List ℕ) → stored (p ++ (s ++ r)) (length p) (length s) ≡ some (text s)
+stored-is p s r =
+    rw (le-leb (length p + length s) (length (p ++ (s ++ r))) (rw (length-append p (s ++ r), length-append s r) (omega arith)), drop-append-seam, take-append-seam) refl
+
+-- a record gives its item back
+record-is : (p r : List ℕ) (x : Item) → let w = recordOf (length p) x in itemOf (p ++ (bytesOf x ++ r)) (w .kind) (w .first) (w .second) ≡ some x
+unfolding itemOf
+record-is p r (text s) = stored-is p s r
+record-is p r newline = refl
+record-is p r spaceOrNewline = refl
+record-is p r tab = refl
+record-is p r indent = refl
+record-is p r outdent = refl
+record-is p r (mark m) = refl
+record-is p r group = refl
+record-is p r groupEnd = refl
+record-is p r block = refl
+record-is p r blockEnd = refl
+record-is p r (run m) = refl
+record-is p r (runEnd m) = refl
+record-is p r (again m) = refl
+record-is p r (ifTest always) = refl
+record-is p r (ifTest (lines m)) = refl
+record-is p r elseItem = refl
+record-is p r endIf = refl
+
+decoded-from : (p : List ℕ) (xs : List Item) (ws ts : List ℕ) → decoded (words (length p) xs ++ ws) (p ++ (bytes xs ++ ts)) (length xs) ≡ some xs
+unfolding words bytes decoded
+decoded-from p [] ws ts = refl
+decoded-from p (x ∷ xs) ws ts =
+    let h = rw (length-append p (bytesOf x), append-assoc p (bytesOf x) (bytes xs ++ ts)) at (decoded-from (p ++ bytesOf x) xs ws ts) in
+    rw (append-assoc (bytesOf x) (bytes xs) ts, record-is p (bytes xs ++ ts) x, h) refl
+
+-- decoding what was encoded gives the items again, whatever stands behind them in the buffers
+pub decoded-is : (xs : List Item) (ws ts : List ℕ) → decoded (words 0 xs ++ ws) (bytes xs ++ ts) (length xs) ≡ some xs
+decoded-is xs ws ts = decoded-from [] xs ws ts
+
+-- a record takes three words
+pub words-length : (at : ℕ) (xs : List Item) → length (words at xs) ≡ 3 * length xs
+unfolding words
+words-length at [] = refl
+words-length at (x ∷ xs) = omega (arith, words-length (at + length (bytesOf x)) xs)

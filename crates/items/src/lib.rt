@@ -1,0 +1,348 @@
+// Print items, written as records into lent buffers.
+ghost use mathlib.Core.Path.{_≡_};
+ghost use mathlib.Core.List.{List};
+ghost use Prim.Native.Nat.{ℕ, max};
+ghost use lib.ListN.{set};
+ghost use Rattle.items.specs.Item.{say, openRun, stopped, text, mark, runEnd, again, ifTest};
+ghost use Rattle.items.specs.Signal.{signalItem, conditionTest};
+ghost use Rattle.items.specs.Records.{recordOf};
+ghost use Rattle.items.specs.Machine.{held, Prints, store, storeRecord, nextRun, noCounts};
+ghost use Rattle.items.specs.Entry.{Emitted, advanced, entryOf, plainEntry};
+ghost use Rattle.items.specs.declared.Printed.the-variants.{Done};
+
+// The number of a line mark: run k has the marks 2k and 2k + 1.
+pub struct Mark(pub u64);
+
+// The number of a run.
+pub struct Run(pub u32);
+
+// The number of an element of the tree.
+pub struct Element(pub usize);
+
+// What was printed so far: records, bytes of their texts, runs and marks.
+pub struct Count {
+    pub records: u32,
+    pub texts: u32,
+    pub runs: u32,
+    pub marks: u32,
+}
+
+// How far printing has come. It is full where a count or an operand would no longer fit 32 bits.
+pub enum Printed {
+    Done(Count),
+    Stopped(Element),
+    Full,
+}
+
+// An item without operands.
+pub enum Signal {
+    NewLine,
+    SpaceOrNewLine,
+    Tab,
+    StartIndent,
+    FinishIndent,
+    StartGroup,
+    FinishGroup,
+    StartBlock,
+    FinishBlock,
+    Else,
+    EndIf,
+}
+
+// What a condition tests: nothing, or whether the lines of a mark and of the next one differ.
+pub enum Condition {
+    Always,
+    Lines(Mark),
+}
+
+// The kinds of records.
+const TEXT: u32 = 1;
+
+const NEW_LINE: u32 = 2;
+
+const SPACE_OR_NEW_LINE: u32 = 3;
+
+const TAB: u32 = 4;
+
+const INDENT: u32 = 5;
+
+const OUTDENT: u32 = 6;
+
+const MARK: u32 = 7;
+
+const GROUP: u32 = 8;
+
+const GROUP_END: u32 = 9;
+
+const BLOCK: u32 = 10;
+
+const BLOCK_END: u32 = 11;
+
+const RUN: u32 = 12;
+
+const RUN_END: u32 = 13;
+
+const AGAIN: u32 = 14;
+
+const IF: u32 = 15;
+
+const ELSE: u32 = 16;
+
+const END_IF: u32 = 17;
+
+// The first operand of a condition.
+const ALWAYS: u64 = 0;
+
+const LINES: u64 = 1;
+
+// Numbers from here on do not fit 32 bits.
+const LIMIT: u64 = 0x1_0000_0000;
+
+// A record, and what it adds to the counts of text bytes, runs and marks.
+struct Entry {
+    kind: u32,
+    first: u64,
+    second: u64,
+    bytes: u64,
+    runs: u32,
+    marks: u32,
+}
+
+// A record with no text that is neither a run nor a mark.
+fn plain(kind: u32, first: u64, second: u64) -> Entry
+    ensures { λ r. ⌜ r ≡ plainEntry kind first second ⌝ }
+{
+    Entry {
+        kind: kind,
+        first: first,
+        second: second,
+        bytes: 0,
+        runs: 0,
+        marks: 0,
+    }
+}
+
+// Stores w at place at, if there is room.
+fn put_word(buf: &mut [u32], at: usize, w: u32)
+    ensures { λ _. ⌜ now (buf .exit) ≡ set (now (buf .entry)) at w ⌝ }
+{
+    if at < buf.len() {
+        buf[at] = w;
+    }
+}
+
+// Stores a record at its place, as far as there is room. Only here is it known that a record has three words.
+fn put_record(buf: &mut [u32], n: u32, kind: u32, first: u32, second: u32)
+    ensures { λ _. ⌜ now (buf .exit) ≡ storeRecord (now (buf .entry)) n kind first second ⌝ }
+{
+    let at = 3 * (n as usize);
+    put_word(buf, at, kind);
+    put_word(buf, at + 1, first);
+    put_word(buf, at + 2, second);
+}
+
+// Stores b at place at, if there is room.
+fn put_byte(buf: &mut [u8], at: usize, b: u8)
+    ensures { λ _. ⌜ now (buf .exit) ≡ set (now (buf .entry)) at b ⌝ }
+{
+    if at < buf.len() {
+        buf[at] = b;
+    }
+}
+
+// Stores the bytes of s from place at on, as far as there is room.
+fn put_bytes(buf: &mut [u8], at: u32, s: &[u8])
+    ensures { λ _. ⌜ now (buf .exit) ≡ store (now (buf .entry)) at (now (s .entry)) ⌝ }
+{
+    let from = at as usize;
+    let mut i = 0;
+    while i < s.len() {
+        put_byte(buf, from + i, s[i]);
+        i += 1;
+    }
+}
+
+// The larger of two numbers.
+fn larger(a: u64, b: u64) -> u64
+    ensures { λ r. ⌜ r ≡ max a b ⌝ }
+{
+    if a < b { b } else { a }
+}
+
+// The counts after a record; full where one of them, or an operand, does not fit.
+fn advance(e: Entry, c: Count) -> Printed
+    ensures { λ r. ⌜ r ≡ advanced e c ⌝ }
+{
+    if LIMIT <= e.bytes {
+        return Printed::Full;
+    }
+    let records = c.records as u64 + 1;
+    let texts = c.texts as u64 + e.bytes;
+    let runs = c.runs as u64 + e.runs as u64;
+    let marks = c.marks as u64 + e.marks as u64;
+    let counts = larger(records, larger(texts, larger(runs, marks)));
+    if LIMIT <= larger(e.first, larger(e.second, counts)) {
+        return Printed::Full;
+    }
+    Printed::Done(Count {
+        records: records as u32,
+        texts: texts as u32,
+        runs: runs as u32,
+        marks: marks as u32,
+    })
+}
+
+// The one place that emits: counts a record, and stores it if the counts still fit.
+fn emit(records: &mut [u32], e: Entry, p: Printed) -> Printed
+    ensures { λ r. ⌜ Emitted e (now (records .entry)) p (now (records .exit)) r ⌝ }
+{
+    let Printed::Done(c) = p else {
+        return p;
+    };
+    let r = advance(e, c);
+    let Printed::Done(_) = r else {
+        return r;
+    };
+    put_record(records, c.records, e.kind, e.first as u32, e.second as u32);
+    r
+}
+
+// Nothing is printed yet.
+pub fn start() -> Printed
+    ensures { λ r. ⌜ r ≡ Done noCounts ⌝ }
+{
+    Printed::Done(Count {
+        records: 0,
+        texts: 0,
+        runs: 0,
+        marks: 0,
+    })
+}
+
+// The number that the next list gets.
+pub fn next_run(p: Printed) -> Run
+    ensures { λ r. ⌜ r .0 ≡ nextRun p ⌝ }
+{
+    let Printed::Done(c) = p else {
+        return Run(0);
+    };
+    Run(c.runs)
+}
+
+// Prints a text, also one of no bytes.
+pub fn print_text(records: &mut [u32], texts: &mut [u8], s: &[u8], p: Printed) -> Printed
+    ensures { λ r. ⌜ Prints (say (text (now (s .entry)))) (held (now (records .entry)) (now (texts .entry)) p) (held (now (records .exit)) (now (texts .exit)) r) ⌝ }
+{
+    let Printed::Done(c) = p else {
+        return p;
+    };
+    put_bytes(texts, c.texts, s);
+    let bytes = s.len() as u64;
+    let e = Entry {
+        kind: TEXT,
+        first: c.texts as u64,
+        second: bytes,
+        bytes: bytes,
+        runs: 0,
+        marks: 0,
+    };
+    emit(records, e, p)
+}
+
+// The kind of an item without operands.
+fn signal_kind(s: Signal) -> u32
+    ensures { λ r. ⌜ r ≡ recordOf 0 (signalItem s) .kind ⌝ }
+{
+    match s {
+        Signal::NewLine => NEW_LINE,
+        Signal::SpaceOrNewLine => SPACE_OR_NEW_LINE,
+        Signal::Tab => TAB,
+        Signal::StartIndent => INDENT,
+        Signal::FinishIndent => OUTDENT,
+        Signal::StartGroup => GROUP,
+        Signal::FinishGroup => GROUP_END,
+        Signal::StartBlock => BLOCK,
+        Signal::FinishBlock => BLOCK_END,
+        Signal::Else => ELSE,
+        Signal::EndIf => END_IF,
+    }
+}
+
+// Prints an item without operands.
+pub fn print_signal(records: &mut [u32], texts: &mut [u8], s: Signal, p: Printed) -> Printed
+    ensures { λ r. ⌜ Prints (say (signalItem s)) (held (now (records .entry)) (now (texts .entry)) p) (held (now (records .exit)) (now (texts .exit)) r) ⌝ }
+{
+    emit(records, plain(signal_kind(s), 0, 0), p)
+}
+
+// Prints a line mark.
+pub fn print_mark(records: &mut [u32], texts: &mut [u8], m: Mark, p: Printed) -> Printed
+    ensures { λ r. ⌜ Prints (say (mark (m .0))) (held (now (records .entry)) (now (texts .entry)) p) (held (now (records .exit)) (now (texts .exit)) r) ⌝ }
+{
+    let e = Entry {
+        kind: MARK,
+        first: m.0,
+        second: 0,
+        bytes: 0,
+        runs: 0,
+        marks: 1,
+    };
+    emit(records, e, p)
+}
+
+// Begins the run of the next list.
+pub fn open_run(records: &mut [u32], texts: &mut [u8], p: Printed) -> Printed
+    ensures { λ r. ⌜ Prints openRun (held (now (records .entry)) (now (texts .entry)) p) (held (now (records .exit)) (now (texts .exit)) r) ⌝ }
+{
+    let k = next_run(p);
+    let e = Entry {
+        kind: RUN,
+        first: k.0 as u64,
+        second: 0,
+        bytes: 0,
+        runs: 1,
+        marks: 0,
+    };
+    emit(records, e, p)
+}
+
+// Ends a run.
+pub fn end_run(records: &mut [u32], texts: &mut [u8], k: Run, p: Printed) -> Printed
+    ensures { λ r. ⌜ Prints (say (runEnd (k .0))) (held (now (records .entry)) (now (texts .entry)) p) (held (now (records .exit)) (now (texts .exit)) r) ⌝ }
+{
+    emit(records, plain(RUN_END, k.0 as u64, 0), p)
+}
+
+// Prints what a run holds once more.
+pub fn print_again(records: &mut [u32], texts: &mut [u8], k: Run, p: Printed) -> Printed
+    ensures { λ r. ⌜ Prints (say (again (k .0))) (held (now (records .entry)) (now (texts .entry)) p) (held (now (records .exit)) (now (texts .exit)) r) ⌝ }
+{
+    emit(records, plain(AGAIN, k.0 as u64, 0), p)
+}
+
+// A condition as a record.
+fn condition_entry(t: Condition) -> Entry
+    ensures { λ r. ⌜ r ≡ entryOf 0 (ifTest (conditionTest t)) ⌝ }
+{
+    match t {
+        Condition::Always => plain(IF, ALWAYS, 0),
+        Condition::Lines(m) => plain(IF, LINES, m.0),
+    }
+}
+
+// Begins the first branch of a condition.
+pub fn print_if(records: &mut [u32], texts: &mut [u8], t: Condition, p: Printed) -> Printed
+    ensures { λ r. ⌜ Prints (say (ifTest (conditionTest t))) (held (now (records .entry)) (now (texts .entry)) p) (held (now (records .exit)) (now (texts .exit)) r) ⌝ }
+{
+    emit(records, condition_entry(t), p)
+}
+
+// Stops at an element, where printing still goes on.
+pub fn stop_at(e: Element, p: Printed) -> Printed
+    ensures { λ r. ⌜ ((rs ts : List ℕ) → Prints (stopped (e .0)) (held rs ts p) (held rs ts r)) ⌝ }
+{
+    let Printed::Done(_) = p else {
+        return p;
+    };
+    Printed::Stopped(e)
+}
