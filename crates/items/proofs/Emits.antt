@@ -66,7 +66,7 @@ module _ (e : Entry) (rs : List ℕ) where
 -- ---- what the functions that print one item show
 
 -- At the counts c the entry e is that of the item x, the printing q prints x alone, and the texts hold its bytes.
-pub record Shows (q : Print) (x : Item) (e : Entry) (ts ts′ : List ℕ) (c : Count) : Type 0 where
+record Shows (q : Print) (x : Item) (e : Entry) (ts ts′ : List ℕ) (c : Count) : Type 0 where
   pub entry : e ≡ entryOf (c .texts) x
   pub prints : q (c .runs) ≡ ok (x ∷ []) (c .runs + isRun (role x))
   pub bytes : ts′ ≡ store ts (c .texts) (bytesOf x)
@@ -84,7 +84,7 @@ module _ (q : Print) (x : Item) (e : Entry) (rs ts rs′ ts′ : List ℕ) where
       go false h = rw h
 
   -- an item is printed by the function that emits its entry
-  pub shown :
+  shown :
       (p r : Printed) → ((c : Count) → p ≡ Done c → Shows q x e ts ts′ c) → Emitted e rs p rs′ r
       → length rs′ ≡ length rs → length ts′ ≡ length ts → Prints q (held rs ts p) (held rs′ ts′ r)
   unfolding run seen continued

@@ -139,3 +139,19 @@ infixr 40 _▸▸_
 -- some items, and then others
 pub _▸▸_ : {xs ys : List Item} {o a b : Held} → Says xs o a → Says ys a b → Says (xs ++ ys) o b
 _▸▸_ {xs} {ys} h k = record { prints = by (says-append xs ys) (h .prints ▸ k .prints) }
+
+-- A loop that prints: whoever prints the rest ys from here has printed the whole xs.
+pub record Going (xs ys : List Item) (o a : Held) : Type 0 where
+  pub rest : {b : Held} → Says ys a b → Says xs o b
+
+pub going-none : (xs : List Item) (o : Held) → Going xs xs o o
+going-none xs o = record { rest = λ h. h }
+
+pub going-more : {xs ys zs us : List Item} {o a b : Held} → Going xs ys o a → ys ≡ us ++ zs → Says us a b → Going xs zs o b
+going-more g e h = record { rest = λ k. g .rest (rw e (h ▸▸ k)) }
+
+pub going-last : {xs ys : List Item} {o a b : Held} → Going xs ys o a → Says ys a b → Says xs o b
+going-last g h = g .rest h
+
+pub going-all : {xs ys : List Item} {o a : Held} → Going xs ys o a → ys ≡ [] → Says xs o a
+going-all g e = g .rest (rw e unsaid)
