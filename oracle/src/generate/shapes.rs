@@ -178,9 +178,13 @@ fn whole(g: &mut Grammar<'_>, sort: usize, mut list: Vec<Node>) -> Vec<Node> {
 /// Adds trivia behind the expression until there are 4,096 elements, or 32,000
 /// bytes, or both.
 pub fn fill(rng: &mut Rng, elements: &mut Vec<Element>) {
-    let sort = rng.below(3);
     let bytes: usize = elements.iter().map(|e| e.text.len()).sum();
     let mut left = MAX_BYTES - bytes;
+    // Which of the two is filled; both need a byte for each new element.
+    let mut sort = rng.below(3);
+    if left < MAX_ELEMENTS {
+        sort = 1;
+    }
     let mut add = |kind, text: String| {
         elements.push(Element {
             kind,
@@ -190,7 +194,10 @@ pub fn fill(rng: &mut Rng, elements: &mut Vec<Element>) {
         elements.len()
     };
     if sort != 1 {
-        while add(64, String::new()) < MAX_ELEMENTS - 1 {}
+        while add(64, rng.pick(&[" ", "\n"]).to_owned()) < MAX_ELEMENTS - 1 {
+            left -= 1;
+        }
+        left -= 1;
     }
     let mut text = String::from("/*");
     left = left.saturating_sub(4);
