@@ -1,0 +1,86 @@
+//! Safe calls of the library's exported functions. A slice is passed as its
+//! pointer and its length.
+
+use oracle::records::Records;
+
+unsafe extern "C" {
+    fn tungvesk_comment(
+        kind: u32,
+        place: u32,
+        text: *const u8,
+        text_len: usize,
+        records: *mut u32,
+        records_len: usize,
+        texts: *mut u8,
+        texts_len: usize,
+        counts: *mut u32,
+        counts_len: usize,
+    ) -> u32;
+}
+
+/// What the buffers hold before a call.
+const FILL: u32 = 0xa5a5_a5a5;
+
+/// Buffers that are lent to a call.
+pub struct Buffers {
+    records: Vec<u32>,
+    texts: Vec<u8>,
+}
+
+impl Buffers {
+    pub fn new(records: usize, texts: usize) -> Self {
+        Self {
+            records: vec![FILL; 3 * records],
+            texts: vec![FILL as u8; texts],
+        }
+    }
+
+    /// The records that a call left, or what is wrong with them. The buffers are
+    /// as before afterwards.
+    fn take(&mut self, answer: u32, counts: [u32; 4]) -> Result<Records, String> {
+        if answer != 0 {
+            return Err(format!("answered {answer}"));
+        }
+        let [records, texts, runs, marks] = counts.map(|n| n as usize);
+        if 3 * records > self.records.len() || texts > self.texts.len() {
+            return Err(format!("counts {counts:?} past the buffers"));
+        }
+        let found = Records {
+            records: self.records[..3 * records].as_chunks().0.to_vec(),
+            texts: self.texts[..texts].to_vec(),
+        };
+        let clean = self.records[3 * records..].iter().all(|w| *w == FILL)
+            && self.texts[texts..].iter().all(|b| *b == FILL as u8);
+        self.records.fill(FILL);
+        self.texts.fill(FILL as u8);
+        if !clean {
+            return Err("something past the counts has changed".to_owned());
+        }
+        if (found.runs(), found.marks()) != (runs, marks) {
+            return Err(format!("runs and marks counted as {runs} and {marks}"));
+        }
+        Ok(found)
+    }
+
+    /// The records of one trivia or custom error in one of the three places.
+    pub fn comment(&mut self, kind: u16, text: &str, place: u32) -> Result<Records, String> {
+        let mut counts = [FILL; 4];
+        // The pointers and lengths are those of slices that live until the call
+        // ends, and no two of them overlap.
+        let answer = unsafe {
+            tungvesk_comment(
+                u32::from(kind),
+                place,
+                text.as_ptr(),
+                text.len(),
+                self.records.as_mut_ptr(),
+                self.records.len(),
+                self.texts.as_mut_ptr(),
+                self.texts.len(),
+                counts.as_mut_ptr(),
+                counts.len(),
+            )
+        };
+        self.take(answer, counts)
+    }
+}

@@ -1,0 +1,63 @@
+//! `compare [SEED [COUNT]]` holds the library against the original, in one
+//! process. It prints what was compared and the smallest input that differs.
+
+use std::{process::ExitCode, time::Instant};
+
+use oracle::{
+    DEFAULT_COUNT, DEFAULT_SEED,
+    generate::{Options, generate},
+    image,
+    print::{deep, print},
+};
+
+#[cfg(library)]
+mod comments;
+#[cfg(library)]
+mod library;
+mod report;
+
+use report::Report;
+
+fn main() -> ExitCode {
+    let mut words = std::env::args().skip(1).map(|w| w.parse::<u64>());
+    let numbers = [words.next(), words.next()];
+    let [Ok(seed), Ok(count)] = [(0, DEFAULT_SEED), (1, DEFAULT_COUNT)]
+        .map(|(n, usual)| numbers[n].clone().unwrap_or(Ok(usual)))
+    else {
+        eprintln!("usage: compare [SEED [COUNT]]");
+        return ExitCode::FAILURE;
+    };
+    let reports = deep(|| run(seed, count));
+    if reports.is_empty() {
+        eprintln!(
+            "nothing was compared: `rt staticlib exports` writes the library's archive, and \
+             TUNGVESK_LIB names its directory"
+        );
+        return ExitCode::FAILURE;
+    }
+    for report in &reports {
+        print!("{report}");
+    }
+    if reports.iter().all(Report::is_clean) {
+        ExitCode::SUCCESS
+    } else {
+        ExitCode::FAILURE
+    }
+}
+
+/// All comparisons over the first images of a seed.
+fn run(seed: u64, count: u64) -> Vec<Report> {
+    let images: Vec<_> = (0..count)
+        .map(|number| generate(seed, number, Options::default()).image)
+        .collect();
+    let start = Instant::now();
+    for bytes in &images {
+        print(&image::read(bytes).expect("a valid image"));
+    }
+    let rate = count as f64 / start.elapsed().as_secs_f64();
+    println!("seed {seed}: {count} images, printed by the original at {rate:.0} a second");
+    #[cfg(library)]
+    return vec![comments::of_images(&images), comments::exhaustive()];
+    #[cfg(not(library))]
+    vec![]
+}
