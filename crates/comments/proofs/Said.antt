@@ -5,16 +5,16 @@ use mathlib.Core.List.{List, [], _∷_, _++_, map, flatten, append-assoc, append
 use Prim.Native.Nat.{ℕ, suc, _+_, _-_, _<_, _≤_}
 use native.Mathlib.Omega.{arith}
 use native.Mathlib.Numerals.{add-one}
-use lib.Dec.{leb, ltb, eqb}
+use lib.Dec.{leb, eqb}
 use lib.ListN.{length, take, drop, getD, length-drop, drop-of-length-le, take-append-drop}
 use lib.Seq.{drop-cons, drop-drop, take-all, length-take-le}
 use borrow.Author.Tests.{eq-eqb, ne-eqb, lt-ltb, le-leb, leb-true, leb-false}
 use Rattle.text.specs.Basic.{ascii, isNil, firstOr, all, and-true, dropWhile, dropEnd, startsWith}
 use Rattle.text.specs.BlankLines.{drops-commute, dropEnd-twice, blank-lines, kept-lines, first-kept}
 use Rattle.text.specs.Text.{lines, lineEnd, padding, trimEnd}
-use Rattle.items.specs.Item.{Item, text, newline, tab, say, says}
+use Rattle.items.specs.Item.{Item, text, newline, tab, say}
 use Rattle.items.specs.Machine.{Held, Prints}
-use Rattle.items.specs.Laws.{Says, said, unsaid, _▸▸_, Going, going-none, going-more, going-all}
+use Rattle.items.specs.Laws.{Says, said, unsaid, Going, going-none, going-more, going-all}
 use Rattle.comments.specs.Comments.{Location, optional, singleLine, common, commonPadding, blockLines, immediate, unpadded, tabbed, oneLine, onOneLine, manyLines, blockOf, multiLine, pieces, comment}
 use Rattle.comments.specs.Rows.{rows, FirstRow, isCut, Piece}
 use Rattle.comments.proofs.Walks.{row-step, rows-none}
