@@ -183,10 +183,11 @@ fn print_block(
 ) -> Printed
     ensures { λ r. ⌜ Says (blockOf doc immediate (rows (now (s .entry)) 0) (place loc)) (held (now (records .entry)) (now (texts .entry)) p) (held (now (records .exit)) (now (texts .exit)) r) ⌝ }
 {
-    if !doc {
-        if s.len() < next_row(s, 0) {
-            return print_one(records, texts, row(s, 0), loc, p);
-        }
+    if doc {
+        return print_many(records, texts, doc, immediate, s, p);
+    }
+    if s.len() < next_row(s, 0) {
+        return print_one(records, texts, row(s, 0), loc, p);
     }
     print_many(records, texts, doc, immediate, s, p)
 }
@@ -202,6 +203,13 @@ fn inside(s: &[u8]) -> &[u8]
     &s[2..end]
 }
 
+// What stands behind the further star of a doc comment.
+fn after_star(doc: bool, s: &[u8]) -> &[u8]
+    ensures { λ r. ⌜ now r ≡ cond doc (drop 1 (now (s .entry))) (now (s .entry)) ⌝ }
+{
+    if doc { behind(s, 1) } else { s }
+}
+
 pub fn print_multi_line(
     records: &mut [u32],
     texts: &mut [u8],
@@ -213,7 +221,7 @@ pub fn print_multi_line(
 {
     let body = inside(s);
     let doc = text::starts_with(body, b"*");
-    let rest = text::trim_end(behind(body, if doc { 1 } else { 0 }));
+    let rest = text::trim_end(after_star(doc, body));
     if rest.len() == 0 {
         return p;
     }

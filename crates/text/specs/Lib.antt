@@ -6,4 +6,5 @@ pub mod White
 pub mod Ends
 pub mod Chars
 pub mod Padding
+pub mod BlankLines
 pub mod Places
