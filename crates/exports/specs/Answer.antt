@@ -1,0 +1,35 @@
+-- What an exported function answers.
+use mathlib.Core.Path.{_≡_}
+use mathlib.Core.Bool.{cond}
+use mathlib.Core.List.{List, [], _∷_}
+use Prim.Native.Nat.{ℕ}
+use lib.Dec.{eqb}
+use lib.Seq.{sets}
+use Rattle.items.specs.declared.Printed.{Printed}
+use Rattle.items.specs.declared.Printed.the-variants.{Done, Stopped, Full}
+use Rattle.items.specs.Item.{Print}
+use Rattle.items.specs.Machine.{Prints, held, noCounts}
+use Rattle.comments.specs.Comments.{Location, aboveItem, itemInline, endOfItems}
+
+-- the place with a number: 0 above an item, 1 inline, else after all items
+unfoldable pub location : ℕ → Location
+location n = cond (eqb n 0) aboveItem (cond (eqb n 1) itemInline endOfItems)
+
+-- 0 where printing came to its end, 10 where it stopped at an element, 14 where a count no longer fits
+unfoldable pub answer : Printed → ℕ
+answer (Done c) = 0
+answer (Stopped e) = 10
+answer Full = 14
+
+-- the four counts in their places, where printing came to its end
+unfoldable pub told : List ℕ → Printed → List ℕ
+told old (Done c) = sets old 0 (c .records ∷ c .texts ∷ c .runs ∷ c .marks ∷ [])
+told old (Stopped e) = old
+told old Full = old
+
+-- Printing q from the start in the lent buffers, with its four counts and its answer.
+pub record Answered (q : Print) (rs ts cs rs′ ts′ cs′ : List ℕ) (r : ℕ) : Type 0 where
+  pub printed : Printed
+  pub prints : Prints q (held rs ts (Done noCounts)) (held rs′ ts′ printed)
+  pub counts : cs′ ≡ told cs printed
+  pub answered : r ≡ answer printed
