@@ -9,12 +9,10 @@ const MULTI_LINE: u16 = 65;
 /// Every trivia and error of these images.
 pub fn of_images(images: &[Vec<u8>]) -> Report {
     let mut report = Report::new("comments and errors of the images, in three places");
-    // No text gives more records or bytes than four times its own.
-    let mut buffers = Buffers::new(4 * 32_000 + 64, 4 * 32_000 + 64);
     for bytes in images {
         for element in image::read(bytes).expect("a valid image") {
             if (64..=72).contains(&element.kind) {
-                three_places(&mut report, &mut buffers, element.kind, &element.text);
+                three_places(&mut report, element.kind, &element.text);
             }
         }
     }
@@ -25,7 +23,6 @@ pub fn of_images(images: &[Vec<u8>]) -> Report {
 /// bytes inside, of those that matter.
 pub fn exhaustive() -> Report {
     let mut report = Report::new("comments and errors of up to six bytes inside, in three places");
-    let mut buffers = Buffers::new(64, 64);
     let alphabet = [b'a', b' ', b'\t', b'\n', b'*', b'\r'];
     for length in 0..=6u32 {
         for number in 0..alphabet.len().pow(length) {
@@ -37,27 +34,24 @@ pub fn exhaustive() -> Report {
                     byte as char
                 })
                 .collect();
-            three_places(
-                &mut report,
-                &mut buffers,
-                MULTI_LINE,
-                &format!("/*{inside}*/"),
-            );
+            three_places(&mut report, MULTI_LINE, &format!("/*{inside}*/"));
             if length < 5 {
-                three_places(&mut report, &mut buffers, 67, &inside);
-                three_places(&mut report, &mut buffers, 68, &format!("#{inside}"));
-                three_places(&mut report, &mut buffers, 69, &format!("//{inside}"));
-                three_places(&mut report, &mut buffers, 70, &inside);
+                three_places(&mut report, 67, &inside);
+                three_places(&mut report, 68, &format!("#{inside}"));
+                three_places(&mut report, 69, &format!("//{inside}"));
+                three_places(&mut report, 70, &inside);
             }
         }
     }
     report
 }
 
-fn three_places(report: &mut Report, buffers: &mut Buffers, kind: u16, text: &str) {
+fn three_places(report: &mut Report, kind: u16, text: &str) {
     for place in 0..3 {
         let original = print::comment(kind, text, place);
-        let ours = buffers.comment(kind, text, place);
+        // Room for more than any comment gives.
+        let room = 4 * text.len() + 16;
+        let ours = Buffers::new(room, room).comment(kind, text, place);
         if ours.as_ref() == Ok(&original) {
             report.same();
         } else {

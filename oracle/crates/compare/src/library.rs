@@ -1,5 +1,5 @@
 //! Safe calls of the library's exported functions. A slice is passed as its
-//! pointer and its length.
+//! pointer and its length, an array as its pointer.
 
 use oracle::records::Records;
 
@@ -13,8 +13,7 @@ unsafe extern "C" {
         records_len: usize,
         texts: *mut u8,
         texts_len: usize,
-        counts: *mut u32,
-        counts_len: usize,
+        counts: &mut [u32; 4],
     ) -> u32;
 }
 
@@ -35,9 +34,8 @@ impl Buffers {
         }
     }
 
-    /// The records that a call left, or what is wrong with them. The buffers are
-    /// as before afterwards.
-    fn take(&mut self, answer: u32, counts: [u32; 4]) -> Result<Records, String> {
+    /// The records that a call left, or what is wrong with them.
+    fn take(&self, answer: u32, counts: [u32; 4]) -> Result<Records, String> {
         if answer != 0 {
             return Err(format!("answered {answer}"));
         }
@@ -45,17 +43,15 @@ impl Buffers {
         if 3 * records > self.records.len() || texts > self.texts.len() {
             return Err(format!("counts {counts:?} past the buffers"));
         }
-        let found = Records {
-            records: self.records[..3 * records].as_chunks().0.to_vec(),
-            texts: self.texts[..texts].to_vec(),
-        };
-        let clean = self.records[3 * records..].iter().all(|w| *w == FILL)
-            && self.texts[texts..].iter().all(|b| *b == FILL as u8);
-        self.records.fill(FILL);
-        self.texts.fill(FILL as u8);
-        if !clean {
+        let (records, past) = self.records.split_at(3 * records);
+        let (texts, past_texts) = self.texts.split_at(texts);
+        if past.iter().any(|w| *w != FILL) || past_texts.iter().any(|b| *b != FILL as u8) {
             return Err("something past the counts has changed".to_owned());
         }
+        let found = Records {
+            records: records.as_chunks().0.to_vec(),
+            texts: texts.to_vec(),
+        };
         if (found.runs(), found.marks()) != (runs, marks) {
             return Err(format!("runs and marks counted as {runs} and {marks}"));
         }
@@ -77,8 +73,7 @@ impl Buffers {
                 self.records.len(),
                 self.texts.as_mut_ptr(),
                 self.texts.len(),
-                counts.as_mut_ptr(),
-                counts.len(),
+                &mut counts,
             )
         };
         self.take(answer, counts)
