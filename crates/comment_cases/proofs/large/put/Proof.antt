@@ -1,0 +1,28 @@
+use mathlib.Core.Path.{_≡_}
+use Prim.Native.Nat.{_-_, _≤_}
+use lib.ListN.{length}
+use borrow.Author.Needs.{needs}
+use Rattle.comment_cases.proofs.large.put.Statement.{statement}
+use Rattle.comment_cases.proofs.large.put.Tie as tie
+
+abbrev Inv-loop : tie.InvT-loop
+Inv-loop token₀ at piece to₀ i₀ token to i = (i ≤ length piece) × (length token ≡ length token₀)
+
+abbrev μ-loop : tie.MeasureT-loop
+μ-loop token₀ at piece to₀ i₀ token to i = length piece - i
+
+pub put-spec : {M : Type 1} → statement M
+put-spec =
+    tie.close
+    (tie.spec
+    Inv-loop
+    μ-loop
+    (λ c. search needs)  -- loop-holds
+    (λ c. search needs)  -- shared-slice-read-put-byte
+    (λ c κs. search needs)  -- put-byte-requires
+    (λ c. search needs)  -- add-i
+    (λ c. search needs)  -- loop-less
+    (λ c. search needs)  -- loop-again
+    (λ c. search needs)  -- same-length
+    (λ c. search needs)  -- returns
+    )

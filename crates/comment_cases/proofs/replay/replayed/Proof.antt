@@ -1,0 +1,30 @@
+use mathlib.Core.Path.{_≡_}
+use Prim.Native.Nat.{_-_, _≤_}
+use lib.ListN.{length}
+use borrow.Author.Needs.{needs}
+use Rattle.comment_cases.proofs.replay.replayed.Statement.{statement}
+use Rattle.comment_cases.proofs.replay.replayed.Tie as tie
+
+abbrev Inv-loop : tie.InvT-loop
+Inv-loop records₀ texts₀ v kind found₀ at₀ records texts found at = ((at ≤ length v) × (length records ≡ length records₀)) × (length texts ≡ length texts₀)
+
+abbrev μ-loop : tie.MeasureT-loop
+μ-loop records₀ texts₀ v kind found₀ at₀ records texts found at = length v - at
+
+pub replayed-spec : {M : Type 1} → statement M
+replayed-spec =
+    tie.close
+    (tie.spec
+    Inv-loop
+    μ-loop
+    (λ c κs. search needs)  -- none-requires
+    (λ c. search needs)  -- loop-holds
+    (λ c κs. search needs)  -- tried-requires
+    (λ c κs. search needs)  -- third-end-requires
+    (λ c κs. search needs)  -- field-end-requires
+    (λ c. search needs)  -- loop-less
+    (λ c. search needs)  -- loop-again
+    (λ c. search needs)  -- same-length
+    (λ c. search needs)  -- same-length-2
+    (λ c. search needs)  -- returns
+    )

@@ -1,0 +1,13 @@
+use Rattle.tree.specs.Tree.{countN}
+use borrow.Author.Needs.{needs}
+use Rattle.tree.proofs.read.element_count.Statement.{statement}
+use Rattle.tree.proofs.read.element_count.Tie as tie
+
+pub element-count-spec : {M : Type 1} → statement M
+unfolding countN
+element-count-spec =
+    tie.close
+    (tie.spec
+    (λ c κs. search needs)  -- u32-at-requires
+    (λ c. c .u32-at .ensures)  -- returns
+    )

@@ -1,0 +1,14 @@
+use borrow.Author.Needs.{needs}
+use Rattle.tree.proofs.refuse.ident_under.Statement.{statement}
+use Rattle.tree.proofs.refuse.ident_under.Tie as tie
+
+pub ident-under-spec : {M : Type 1} → statement M
+ident-under-spec =
+    tie.close
+    (tie.spec
+    (λ c κs. search needs)  -- level-of-requires
+    (λ c. search needs)  -- cast-result
+    (λ c. search needs)  -- add-result
+    (λ c κs. search needs)  -- kind-of-requires
+    (λ c. rw (← (c .before .level-of .ensures), ← (c .kind-of .ensures)))  -- returns
+    )

@@ -1,0 +1,14 @@
+use Rattle.tree.specs.Refusal.{nodeWithText}
+use borrow.Author.Needs.{needs}
+use Rattle.tree.proofs.refuse.node_with_text_at.Statement.{statement}
+use Rattle.tree.proofs.refuse.node_with_text_at.Tie as tie
+
+pub node-with-text-at-spec : {M : Type 1} → statement M
+unfolding nodeWithText
+node-with-text-at-spec =
+    tie.close
+    (tie.spec
+    (λ c κs. search needs)  -- kind-of-requires
+    (λ c κs. search needs)  -- size-of-requires
+    (λ c. rw (← (c .before .kind-of .ensures), ← (c .size-of .ensures)))  -- returns
+    )

@@ -1,0 +1,12 @@
+use borrow.Author.Needs.{needs}
+use Rattle.tree.proofs.refuse.starts_wrong.Statement.{statement}
+use Rattle.tree.proofs.refuse.starts_wrong.Tie as tie
+
+pub starts-wrong-spec : {M : Type 1} → statement M
+starts-wrong-spec =
+    tie.close
+    (tie.spec
+    (λ c κs. search needs)  -- kind-of-requires
+    (λ c κs. search needs)  -- level-of-requires
+    (λ c. rw (← (c .before .kind-of .ensures), ← (c .level-of .ensures)))  -- returns
+    )

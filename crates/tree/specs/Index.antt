@@ -1,0 +1,98 @@
+-- The index of a tree: for each element its kind, where its subtree ends and where its text starts, and an entry more for the end.
+use mathlib.Core.Path.{_≡_}
+use mathlib.Core.Bool.{cond}
+use mathlib.Core.Option.{none}
+use mathlib.Core.List.{List, [], _∷_}
+use Prim.Native.Nat.{ℕ, zero, suc, _+_, _*_, _-_, _<_, _≤_}
+use native.Mathlib.Omega.{arith}
+use lib.Dec.{ltb}
+use lib.ListN.{length, getD, take, drop}
+use Rattle.tree.specs.Tree.{Part, countN}
+use Rattle.tree.specs.Image.{kindIn, startIn}
+use Rattle.tree.specs.Ends.{endIn}
+use Rattle.tree.specs.Refusal.{refusal}
+use Rattle.tree.specs.Answer.{said, answer, Passing, passing}
+use Rattle.tree.specs.declared.Tested.{Tested}
+use Rattle.tree.specs.declared.Tested.the-variants.{Accepted}
+
+-- the kind of element i
+unfoldable pub kindAt : List ℕ → ℕ → ℕ
+kindAt index i = getD index (i * 3) 0
+
+-- where the subtree of element i ends
+unfoldable pub endAt : List ℕ → ℕ → ℕ
+endAt index i = getD index (i * 3 + 1) 0
+
+-- where the text of element i starts
+unfoldable pub startAt : List ℕ → ℕ → ℕ
+startAt index i = getD index (i * 3 + 2) 0
+
+-- The entry i of an index.
+pub record Entry (index : List ℕ) (i kind end start : ℕ) : Type 0 where
+  pub kinds : kindAt index i ≡ kind
+  pub ends : endAt index i ≡ end
+  pub starts : startAt index i ≡ start
+
+-- how many numbers an index has
+abbrev pub indexSize : List ℕ → ℕ
+indexSize image = countN image * 3 + 3
+
+-- The entries of an index from element i on are the tree's.
+pub record IndexedFrom (image index : List ℕ) (i : ℕ) : Type 0 where
+  pub room : indexSize image ≤ length index
+  pub entry : (j : ℕ) → i ≤ j → j < countN image → Entry index j (kindIn image j) (endIn image j) (startIn image j)
+  pub last : Entry index (countN image) 0 (countN image) (startIn image (countN image))
+
+-- The image passed the tests 1 to 9, and the index is its tree's.
+pub record Indexed (image index : List ℕ) : Type 0 where
+  pub passed : refusal image ≡ none
+  pub entries : IndexedFrom image index 0
+
+-- The image passed the tests 1 to 9, and a table has room for its index.
+pub record Indexable (image table : List ℕ) : Type 0 where
+  pub passed : refusal image ≡ none
+  pub room : indexSize image ≤ length table
+
+-- what a caller knows of an image that the tests let pass
+pub indexable : {image table : List ℕ} {r : Tested} {n b : ℕ} → said r ≡ answer image → r ≡ Accepted n b → n * 3 + 3 ≤ length table → Indexable image table
+indexable {image} {table} {r} {n} {b} e h k =
+    let p : Passing image n b = passing image n b (rw h at e) in
+    record { passed = p .unrefused; room = omega (arith, p .elements) }
+
+-- A table after the index was written into it: what stands behind the index is as before.
+pub record Filled (image before after : List ℕ) : Type 0 where
+  pub indexed : Indexed image after
+  pub kept : drop (indexSize image) after ≡ drop (indexSize image) before
+  pub sized : length after ≡ length before
+
+-- the joined text of the tokens under element i
+unfoldable pub textAt : List ℕ → List ℕ → ℕ → List ℕ
+textAt index text i = take (startAt index (endAt index i) - startAt index i) (drop (startAt index i) text)
+
+-- element i as its parent sees it
+abbrev pub partAt : List ℕ → List ℕ → ℕ → Part
+partAt index text i = record { number = i; kind = kindAt index i; text = textAt index text i }
+
+-- at most n siblings, from a on, that begin before b
+unfoldable pub walk : ℕ → List ℕ → List ℕ → ℕ → ℕ → List Part
+walk zero index text a b = []
+walk (suc n) index text a b = cond (ltb a b) (partAt index text a ∷ walk n index text (endAt index a) b) []
+
+-- the siblings from a on that begin before b
+unfoldable pub partsFrom : List ℕ → List ℕ → ℕ → ℕ → List Part
+partsFrom index text a b = walk (b - a) index text a b
+
+-- The index has n elements and an entry for the end of the texts; ends lie behind their elements, and texts do not go back.
+pub record Table (index text : List ℕ) (n : ℕ) : Type 0 where
+  pub size : n * 3 + 3 ≤ length index
+  pub past : (i : ℕ) → i < n → i < endAt index i
+  pub inside : (i : ℕ) → i < n → endAt index i ≤ n
+  pub forward : (i j : ℕ) → i ≤ j → j ≤ n → startAt index i ≤ startAt index j
+  pub whole : startAt index n ≡ length text
+
+-- A walk may go on at a, up to b.
+pub record Region (index text : List ℕ) (a b : ℕ) : Type 0 where
+  pub n : ℕ
+  pub table : Table index text n
+  pub begins : a ≤ n
+  pub ends : b ≤ n

@@ -1,0 +1,60 @@
+// The index of the tree: kind, end of the subtree and start of the text of each element, and an entry more for the end.
+use super::access::END;
+use super::access::ENTRY;
+use super::access::START;
+use super::read;
+ghost use mathlib.Core.Path.{_≡_};
+ghost use Prim.Native.Nat.{_+_, _*_, _<_};
+ghost use lib.ListN.{length, set};
+ghost use Rattle.tree.specs.Tree.{countN};
+ghost use Rattle.tree.specs.Ends.{endIn};
+ghost use Rattle.tree.specs.Index.{IndexedFrom, Indexable, Filled};
+
+// Writes the entry of element i.
+fn put_entry(table: &mut [u32], i: u32, kind: u32, end: u32, start: u32)
+    requires { ⌜ i * 3 + 2 < length (now table) ⌝ }
+    ensures { λ _. ⌜ now (table .exit) ≡ set (set (set (now (table .entry)) (i * 3) kind) (i * 3 + 1) end) (i * 3 + 2) start ⌝ }
+{
+    let at = (i as usize) * ENTRY;
+    table[at] = kind;
+    table[at + END] = end;
+    table[at + START] = start;
+}
+
+// Where the subtree of element i ends: jumps over the subtrees behind it that are deeper. Each subtree is jumped over
+// once in all, since the element that jumped over it is met first from then on.
+fn find_end(image: &[u8], table: &[u32], i: u32) -> u32
+    requires { ⌜ i < countN (now image) ⌝ }
+    requires { ⌜ IndexedFrom (now image) (now table) (i + 1) ⌝ }
+    ensures { λ r. ⌜ r ≡ endIn (now (image .entry)) i ⌝ }
+{
+    let n = read::element_count(image);
+    let level = read::level_of(image, i);
+    let mut j = i + 1;
+    while j < n {
+        if read::level_of(image, j) <= level {
+            return j;
+        }
+        j = table[(j as usize) * ENTRY + END];
+    }
+    j
+}
+
+// Writes the index of an image that passed the tests, from the last element to the first.
+pub fn index(image: &[u8], table: &mut [u32])
+    requires { ⌜ Indexable (now image) (now table) ⌝ }
+    ensures { λ _. ⌜ Filled (now (image .entry)) (now (table .entry)) (now (table .exit)) ⌝ }
+{
+    let n = read::element_count(image);
+    let b = read::byte_count(image);
+    put_entry(table, n, 0, n, b);
+    let mut start = b;
+    let mut i = n;
+    while 0 < i {
+        i -= 1;
+        start -= read::size_of(image, i);
+        let kind = read::kind_of(image, i) as u32;
+        let end = find_end(image, table, i);
+        put_entry(table, i, kind, end, start);
+    }
+}

@@ -1,0 +1,329 @@
+// The tests 1 to 9: one function for each that walks the elements, over one that looks at one of them.
+use super::ElementNumber;
+use super::Found;
+use super::read;
+ghost use mathlib.Core.Path.{_≡_};
+ghost use mathlib.Core.Bool.{not, _&&_, _||_};
+ghost use Prim.Native.Nat.{_+_, _<_, suc};
+ghost use lib.Dec.{eqb, ltb};
+ghost use lib.ListN.{length, drop};
+ghost use Rattle.text.specs.Basic.{sum, ascii, startsWith};
+ghost use Rattle.text.specs.Text.{endsWith};
+ghost use Rattle.tree.specs.Tree.{Element, countN, elementsOf};
+ghost use Rattle.tree.specs.Image.{kindIn, levelIn, startIn, elementIn};
+ghost use Rattle.tree.specs.Refusal.{wrongLength, outOfLimits, firstWhere, unknownKind, misplaced, firstMisplaced, nodeWithText, wrongSizes, notUtf8, stringBlock, misformed, noIdent, firstNameless};
+ghost use Rattle.tree.specs.Answer.{found};
+
+const MAX_ELEMENTS: u32 = 4096;
+
+const MAX_BYTES: u32 = 32000;
+
+const MAX_LEVEL: u32 = 200;
+// The kinds of nodes and of tokens, and single ones.
+const FIRST_NODE: u16 = 1;
+
+const LAST_NODE: u16 = 56;
+
+const FIRST_TOKEN: u16 = 64;
+
+const LAST_TOKEN: u16 = 107;
+
+const SOURCE_FILE: u16 = 1;
+
+const NAME: u16 = 43;
+
+const MULTI_LINE_COMMENT: u16 = 65;
+
+const HASH_COMMENT: u16 = 68;
+
+const SLASH_COMMENT: u16 = 69;
+
+const STRING_BLOCK: u16 = 82;
+
+const IDENT: u16 = 90;
+
+// 1: the image is too short to read N or B, or its length is not 8 + 8N + B.
+pub fn wrong_length(image: &[u8]) -> bool
+    ensures { λ r. ⌜ r ≡ wrongLength (now (image .entry)) ⌝ }
+{
+    let n = read::element_count(image) as usize;
+    let b = read::byte_count(image) as usize;
+    (image.len() < 4) | ((image.len() < 8 + 8 * n) | (image.len() != 8 + 8 * n + b))
+}
+
+// 2: N is 0 or above 4,096, or B is above 32,000.
+pub fn out_of_limits(image: &[u8]) -> bool
+    ensures { λ r. ⌜ r ≡ outOfLimits (now (image .entry)) ⌝ }
+{
+    let n = read::element_count(image);
+    let b = read::byte_count(image);
+    (n == 0) | ((MAX_ELEMENTS < n) | (MAX_BYTES < b))
+}
+
+// The kind of element i is not in the tables.
+fn unknown_kind_at(image: &[u8], i: u32) -> bool
+    ensures { λ r. ⌜ r ≡ unknownKind (elementIn (now (image .entry)) i) ⌝ }
+{
+    let k = read::kind_of(image, i);
+    !(((FIRST_NODE <= k) & (k <= LAST_NODE)) | ((FIRST_TOKEN <= k) & (k <= LAST_TOKEN)))
+}
+
+// 3: the first element whose kind is not in the tables.
+pub fn unknown_kind(image: &[u8]) -> Found
+    ensures { λ r. ⌜ found r ≡ firstWhere unknownKind (elementsOf (now (image .entry))) ⌝ }
+{
+    let n = read::element_count(image);
+    let mut i = 0;
+    while i < n {
+        if unknown_kind_at(image, i) {
+            return Found::At(ElementNumber(i));
+        }
+        i += 1;
+    }
+    Found::Nothing
+}
+
+// Element i, behind the element before, is where no element may be.
+fn misplaced_at(image: &[u8], before: u32, i: u32) -> bool
+    ensures { λ r. ⌜ r ≡ misplaced (elementIn (now (image .entry)) before) (elementIn (now (image .entry)) i) ⌝ }
+{
+    let kind = read::kind_of(image, i);
+    let level = read::level_of(image, i) as u32;
+    let parent = read::kind_of(image, before);
+    let above = read::level_of(image, before) as u32;
+    (kind == SOURCE_FILE)
+        | ((level == 0)
+            | ((MAX_LEVEL < level)
+                | ((above + 1 < level) | ((FIRST_TOKEN <= parent) & (above < level)))))
+}
+
+// The first element is not a SourceFile at level 0.
+fn starts_wrong(image: &[u8]) -> bool
+    ensures { λ r. ⌜ r ≡ not (eqb (kindIn (now (image .entry)) 0) 1 && eqb (levelIn (now (image .entry)) 0) 0) ⌝ }
+{
+    let kind = read::kind_of(image, 0);
+    let level = read::level_of(image, 0);
+    !((kind == SOURCE_FILE) & (level == 0))
+}
+
+// 4: the first element that is where it may not be.
+pub fn first_misplaced(image: &[u8]) -> Found
+    ensures { λ r. ⌜ found r ≡ firstMisplaced (elementsOf (now (image .entry))) ⌝ }
+{
+    let n = read::element_count(image);
+    if n == 0 {
+        return Found::Nothing;
+    }
+    if starts_wrong(image) {
+        return Found::At(ElementNumber(0));
+    }
+    let mut i = 1;
+    while i < n {
+        if misplaced_at(image, i - 1, i) {
+            return Found::At(ElementNumber(i));
+        }
+        i += 1;
+    }
+    Found::Nothing
+}
+
+// Element i is a node with a length other than 0.
+fn node_with_text_at(image: &[u8], i: u32) -> bool
+    ensures { λ r. ⌜ r ≡ nodeWithText (elementIn (now (image .entry)) i) ⌝ }
+{
+    let k = read::kind_of(image, i);
+    let size = read::size_of(image, i);
+    !(FIRST_TOKEN <= k) & (size != 0)
+}
+
+// 5: the first node with a length other than 0.
+fn node_with_text(image: &[u8]) -> Found
+    ensures { λ r. ⌜ found r ≡ firstWhere nodeWithText (elementsOf (now (image .entry))) ⌝ }
+{
+    let n = read::element_count(image);
+    let mut i = 0;
+    while i < n {
+        if node_with_text_at(image, i) {
+            return Found::At(ElementNumber(i));
+        }
+        i += 1;
+    }
+    Found::Nothing
+}
+
+// 5: the sum of the lengths.
+fn sum_of_sizes(image: &[u8]) -> usize
+    ensures { λ r. ⌜ r ≡ sum (λ (e : Element). e .size) (elementsOf (now (image .entry))) ⌝ }
+{
+    let n = read::element_count(image);
+    let mut total: usize = 0;
+    let mut i = 0;
+    while i < n {
+        total += read::size_of(image, i) as usize;
+        i += 1;
+    }
+    total
+}
+
+// 5: the first node with a length other than 0, or else N where the lengths do not add up to B.
+pub fn wrong_sizes(image: &[u8]) -> Found
+    ensures { λ r. ⌜ found r ≡ wrongSizes (now (image .entry)) (elementsOf (now (image .entry))) ⌝ }
+{
+    let node = node_with_text(image);
+    if let Found::At(_) = node {
+        return node;
+    }
+    if sum_of_sizes(image) == read::byte_count(image) as usize {
+        return Found::Nothing;
+    }
+    Found::At(ElementNumber(read::element_count(image)))
+}
+
+// Element i is a token whose text is not valid UTF-8.
+fn not_utf8_at(image: &[u8], i: u32, at: usize) -> bool
+    requires { ⌜ at ≡ startIn (now image) i ⌝ }
+    ensures { λ r. ⌜ r ≡ notUtf8 (elementIn (now (image .entry)) i) ⌝ }
+{
+    if read::kind_of(image, i) < FIRST_TOKEN {
+        return false;
+    }
+    !text::is_utf8(read::text_of(image, i, at))
+}
+
+// 6: the first token whose text is not valid UTF-8.
+pub fn not_utf8(image: &[u8]) -> Found
+    ensures { λ r. ⌜ found r ≡ firstWhere notUtf8 (elementsOf (now (image .entry))) ⌝ }
+{
+    let n = read::element_count(image);
+    let mut at: usize = 0;
+    let mut i = 0;
+    while i < n {
+        if not_utf8_at(image, i, at) {
+            return Found::At(ElementNumber(i));
+        }
+        at += read::size_of(image, i) as usize;
+        i += 1;
+    }
+    Found::Nothing
+}
+
+// Element i is a string block.
+fn string_block_at(image: &[u8], i: u32) -> bool
+    ensures { λ r. ⌜ r ≡ stringBlock (elementIn (now (image .entry)) i) ⌝ }
+{
+    read::kind_of(image, i) == STRING_BLOCK
+}
+
+// 7: the first string block.
+pub fn string_block(image: &[u8]) -> Found
+    ensures { λ r. ⌜ found r ≡ firstWhere stringBlock (elementsOf (now (image .entry))) ⌝ }
+{
+    let n = read::element_count(image);
+    let mut i = 0;
+    while i < n {
+        if string_block_at(image, i) {
+            return Found::At(ElementNumber(i));
+        }
+        i += 1;
+    }
+    Found::Nothing
+}
+
+// A multi-line comment is shorter than 4 bytes or lacks its opening or its end.
+fn misformed_multi_line(s: &[u8]) -> bool
+    ensures { λ r. ⌜ r ≡ (ltb (length (now (s .entry))) 4 || (not (startsWith (ascii "/*") (now (s .entry))) || not (endsWith (ascii "*/") (now (s .entry))))) ⌝ }
+{
+    let opened = text::starts_with(s, b"/*");
+    let closed = text::ends_with(s, b"*/");
+    (s.len() < 4) | (!opened | !closed)
+}
+
+// Element i is a misformed comment.
+fn misformed_at(image: &[u8], i: u32, at: usize) -> bool
+    requires { ⌜ at ≡ startIn (now image) i ⌝ }
+    ensures { λ r. ⌜ r ≡ misformed (elementIn (now (image .entry)) i) ⌝ }
+{
+    let kind = read::kind_of(image, i);
+    let s = read::text_of(image, i, at);
+    if kind == HASH_COMMENT {
+        return !text::starts_with(s, b"#");
+    }
+    if kind == SLASH_COMMENT {
+        return !text::starts_with(s, b"//");
+    }
+    if kind == MULTI_LINE_COMMENT {
+        return misformed_multi_line(s);
+    }
+    false
+}
+
+// 8: the first misformed comment.
+pub fn first_misformed(image: &[u8]) -> Found
+    ensures { λ r. ⌜ found r ≡ firstWhere misformed (elementsOf (now (image .entry))) ⌝ }
+{
+    let n = read::element_count(image);
+    let mut at: usize = 0;
+    let mut i = 0;
+    while i < n {
+        if misformed_at(image, i, at) {
+            return Found::At(ElementNumber(i));
+        }
+        at += read::size_of(image, i) as usize;
+        i += 1;
+    }
+    Found::Nothing
+}
+
+// Element i is an identifier at the level below a Name's.
+fn ident_under(image: &[u8], name: u16, i: u32) -> bool
+    ensures { λ r. ⌜ r ≡ (eqb (levelIn (now (image .entry)) i) (name + 1) && eqb (kindIn (now (image .entry)) i) 90) ⌝ }
+{
+    (read::level_of(image, i) as u32 == name as u32 + 1) & (read::kind_of(image, i) == IDENT)
+}
+
+// No direct child of element i is an identifier. Walks the subtree of i at most: the walks for all Names take no
+// more than a step for each element and each level, of which there are 200 after test 4.
+fn lacks_ident(image: &[u8], i: u32) -> bool
+    requires { ⌜ i < countN (now image) ⌝ }
+    ensures { λ r. ⌜ r ≡ noIdent (suc (levelIn (now (image .entry)) i)) (drop (i + 1) (elementsOf (now (image .entry)))) ⌝ }
+{
+    let n = read::element_count(image);
+    let name = read::level_of(image, i);
+    let mut j = i + 1;
+    while j < n {
+        if read::level_of(image, j) <= name {
+            return true;
+        }
+        if ident_under(image, name, j) {
+            return false;
+        }
+        j += 1;
+    }
+    true
+}
+
+// Element i is a Name without an identifier.
+fn nameless_at(image: &[u8], i: u32) -> bool
+    requires { ⌜ i < countN (now image) ⌝ }
+    ensures { λ r. ⌜ r ≡ (eqb (kindIn (now (image .entry)) i) 43 && noIdent (suc (levelIn (now (image .entry)) i)) (drop (i + 1) (elementsOf (now (image .entry))))) ⌝ }
+{
+    if read::kind_of(image, i) != NAME {
+        return false;
+    }
+    lacks_ident(image, i)
+}
+
+// 9: the first Name without an identifier.
+pub fn first_nameless(image: &[u8]) -> Found
+    ensures { λ r. ⌜ found r ≡ firstNameless (elementsOf (now (image .entry))) ⌝ }
+{
+    let n = read::element_count(image);
+    let mut i = 0;
+    while i < n {
+        if nameless_at(image, i) {
+            return Found::At(ElementNumber(i));
+        }
+        i += 1;
+    }
+    Found::Nothing
+}
