@@ -1,11 +1,16 @@
 // Functions for programs in other languages. `oracle/crates/compare` calls them from Rust.
 use comments::CommentLocation;
 use items::Printed;
+use tree::Tested;
 ghost use mathlib.Core.Path.{_≡_};
 ghost use Rattle.items.specs.Item.{says};
 ghost use Rattle.comments.specs.Comments.{comment};
 ghost use Rattle.comments.specs.Place.{place};
-ghost use Rattle.exports.specs.Answer.{location, answer, told, Answered};
+ghost use mathlib.Core.List.{[], _∷_};
+ghost use lib.Seq.{sets};
+ghost use Rattle.tree.specs.Answer.{said, answer};
+ghost use Rattle.exports.specs.Comment.{location, code, told, Printing};
+ghost use Rattle.exports.specs.Refusal.{number, first, second};
 
 // The numbers of the places; any other number is the last of them, after all items.
 const ABOVE_ITEM: u32 = 0;
@@ -32,7 +37,7 @@ fn location_of(n: u32) -> CommentLocation
 
 // Writes the four counts of what was printed, and gives the answer.
 fn tell(counts: &mut [u32; 4], p: Printed) -> u32
-    ensures { λ r. ⌜ r ≡ answer p ⌝ }
+    ensures { λ r. ⌜ r ≡ code p ⌝ }
     ensures { λ _. ⌜ now (counts .exit) ≡ told (now (counts .entry)) p ⌝ }
 {
     match p {
@@ -58,9 +63,87 @@ pub extern "C" fn tungvesk_comment(
     texts: &mut [u8],
     counts: &mut [u32; 4],
 ) -> u32
-    ensures { λ r. ⌜ Answered (says (comment kind (now (s .entry)) (location at))) (now (records .entry)) (now (texts .entry)) (now (counts .entry)) (now (records .exit)) (now (texts .exit)) (now (counts .exit)) r ⌝ }
+    ensures { λ r. ⌜ Printing (says (comment kind (now (s .entry)) (location at))) (now (records .entry)) (now (texts .entry)) (now (counts .entry)) (now (records .exit)) (now (texts .exit)) (now (counts .exit)) r ⌝ }
 {
     let loc = location_of(at);
     let p = comments::format_comment(records, texts, kind, s, loc, items::start());
     tell(counts, p)
+}
+
+// A refusal of document 01 with its element and 0, or 0 with N and B.
+struct Verdict {
+    number: u32,
+    first: u32,
+    second: u32,
+}
+
+fn say(t: Tested) -> Verdict
+    ensures { λ r. ⌜ r .number ≡ number (said t) ⌝ }
+    ensures { λ r. ⌜ r .first ≡ first (said t) ⌝ }
+    ensures { λ r. ⌜ r .second ≡ second (said t) ⌝ }
+{
+    match t {
+        Tested::WrongLength => Verdict {
+            number: 1,
+            first: 0,
+            second: 0,
+        },
+        Tested::OutOfLimits => Verdict {
+            number: 2,
+            first: 0,
+            second: 0,
+        },
+        Tested::UnknownKind(e) => Verdict {
+            number: 3,
+            first: e.0,
+            second: 0,
+        },
+        Tested::Misplaced(e) => Verdict {
+            number: 4,
+            first: e.0,
+            second: 0,
+        },
+        Tested::WrongSize(e) => Verdict {
+            number: 5,
+            first: e.0,
+            second: 0,
+        },
+        Tested::NotUtf8(e) => Verdict {
+            number: 6,
+            first: e.0,
+            second: 0,
+        },
+        Tested::StringBlock(e) => Verdict {
+            number: 7,
+            first: e.0,
+            second: 0,
+        },
+        Tested::Misformed(e) => Verdict {
+            number: 8,
+            first: e.0,
+            second: 0,
+        },
+        Tested::Nameless(e) => Verdict {
+            number: 9,
+            first: e.0,
+            second: 0,
+        },
+        Tested::Accepted { elements, bytes } => Verdict {
+            number: 0,
+            first: elements,
+            second: bytes,
+        },
+    }
+}
+
+// What the tests 1 to 9 say of an image.
+#[no_mangle]
+pub extern "C" fn tungvesk_refusal(image: &[u8], values: &mut [u32; 2]) -> u32
+    ensures { λ r. ⌜ r ≡ number (answer (now (image .entry))) ⌝ }
+    ensures { λ _. ⌜ now (values .exit) ≡ sets (now (values .entry)) 0 (first (answer (now (image .entry))) ∷ second (answer (now (image .entry))) ∷ []) ⌝ }
+{
+    let v = say(tree::refusal(image));
+    values[0] = v.first;
+    values[1] = v.second;
+    v.number
 }

@@ -1,5 +1,5 @@
 use borrow.Author.Tests.{ne-eqb}
-use Rattle.exports.specs.Answer.{location}
+use Rattle.exports.specs.Comment.{location}
 use Rattle.exports.proofs.location_of.Statement.{statement}
 use Rattle.exports.proofs.location_of.Tie as tie
 

@@ -1,11 +1,11 @@
 use borrow.Author.Needs.{needs}
 use mathlib.Core.Path.{refl}
-use Rattle.exports.specs.Answer.{answer, told}
+use Rattle.exports.specs.Comment.{code, told}
 use Rattle.exports.proofs.tell.Statement.{statement}
 use Rattle.exports.proofs.tell.Tie as tie
 
 pub tell-spec : {M : Type 1} → statement M
-unfolding answer told
+unfolding code told
 tell-spec =
     tie.close
     (tie.spec

@@ -1,4 +1,4 @@
--- What an exported function answers.
+-- What the exported function on comments answers.
 use mathlib.Core.Path.{_≡_}
 use mathlib.Core.Bool.{cond}
 use mathlib.Core.List.{List, [], _∷_}
@@ -16,10 +16,10 @@ unfoldable pub location : ℕ → Location
 location n = cond (eqb n 0) aboveItem (cond (eqb n 1) itemInline endOfItems)
 
 -- 0 where printing came to its end, 10 where it stopped at an element, 14 where a count no longer fits
-unfoldable pub answer : Printed → ℕ
-answer (Done c) = 0
-answer (Stopped e) = 10
-answer Full = 14
+unfoldable pub code : Printed → ℕ
+code (Done c) = 0
+code (Stopped e) = 10
+code Full = 14
 
 -- the four counts in their places, where printing came to its end
 unfoldable pub told : List ℕ → Printed → List ℕ
@@ -28,8 +28,8 @@ told old (Stopped e) = old
 told old Full = old
 
 -- Printing q from the start in the lent buffers, with its four counts and its answer.
-pub record Answered (q : Print) (rs ts cs rs′ ts′ cs′ : List ℕ) (r : ℕ) : Type 0 where
+pub record Printing (q : Print) (rs ts cs rs′ ts′ cs′ : List ℕ) (r : ℕ) : Type 0 where
   pub printed : Printed
   pub prints : Prints q (held rs ts (Done noCounts)) (held rs′ ts′ printed)
   pub counts : cs′ ≡ told cs printed
-  pub answered : r ≡ answer printed
+  pub answered : r ≡ code printed

@@ -1,0 +1,18 @@
+-- What the exported function on refusals answers.
+use Prim.Native.Nat.{ℕ}
+use Rattle.tree.specs.Answer.{Answer, refused, passed}
+
+-- document 01's number of the refusal, 0 where there is none
+unfoldable pub number : Answer → ℕ
+number (refused r) = r .number
+number (passed n b) = 0
+
+-- its element, or N of an image that passed
+unfoldable pub first : Answer → ℕ
+first (refused r) = r .element
+first (passed n b) = n
+
+-- B of an image that passed
+unfoldable pub second : Answer → ℕ
+second (refused r) = 0
+second (passed n b) = b
