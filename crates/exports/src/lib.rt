@@ -71,68 +71,24 @@ pub extern "C" fn tungvesk_comment(
 }
 
 // A refusal of document 01 with its element and 0, or 0 with N and B.
-struct Verdict {
-    number: u32,
-    first: u32,
-    second: u32,
-}
+struct Verdict(u32, u32, u32);
 
 fn say(t: Tested) -> Verdict
-    ensures { λ r. ⌜ r .number ≡ number (said t) ⌝ }
-    ensures { λ r. ⌜ r .first ≡ first (said t) ⌝ }
-    ensures { λ r. ⌜ r .second ≡ second (said t) ⌝ }
+    ensures { λ r. ⌜ r .0 ≡ number (said t) ⌝ }
+    ensures { λ r. ⌜ r .1 ≡ first (said t) ⌝ }
+    ensures { λ r. ⌜ r .2 ≡ second (said t) ⌝ }
 {
     match t {
-        Tested::WrongLength => Verdict {
-            number: 1,
-            first: 0,
-            second: 0,
-        },
-        Tested::OutOfLimits => Verdict {
-            number: 2,
-            first: 0,
-            second: 0,
-        },
-        Tested::UnknownKind(e) => Verdict {
-            number: 3,
-            first: e.0,
-            second: 0,
-        },
-        Tested::Misplaced(e) => Verdict {
-            number: 4,
-            first: e.0,
-            second: 0,
-        },
-        Tested::WrongSize(e) => Verdict {
-            number: 5,
-            first: e.0,
-            second: 0,
-        },
-        Tested::NotUtf8(e) => Verdict {
-            number: 6,
-            first: e.0,
-            second: 0,
-        },
-        Tested::StringBlock(e) => Verdict {
-            number: 7,
-            first: e.0,
-            second: 0,
-        },
-        Tested::Misformed(e) => Verdict {
-            number: 8,
-            first: e.0,
-            second: 0,
-        },
-        Tested::Nameless(e) => Verdict {
-            number: 9,
-            first: e.0,
-            second: 0,
-        },
-        Tested::Accepted { elements, bytes } => Verdict {
-            number: 0,
-            first: elements,
-            second: bytes,
-        },
+        Tested::WrongLength => Verdict(1, 0, 0),
+        Tested::OutOfLimits => Verdict(2, 0, 0),
+        Tested::UnknownKind(e) => Verdict(3, e.0, 0),
+        Tested::Misplaced(e) => Verdict(4, e.0, 0),
+        Tested::WrongSize(e) => Verdict(5, e.0, 0),
+        Tested::NotUtf8(e) => Verdict(6, e.0, 0),
+        Tested::StringBlock(e) => Verdict(7, e.0, 0),
+        Tested::Misformed(e) => Verdict(8, e.0, 0),
+        Tested::Nameless(e) => Verdict(9, e.0, 0),
+        Tested::Accepted { elements, bytes } => Verdict(0, elements, bytes),
     }
 }
 
@@ -143,7 +99,7 @@ pub extern "C" fn tungvesk_refusal(image: &[u8], values: &mut [u32; 2]) -> u32
     ensures { λ _. ⌜ now (values .exit) ≡ sets (now (values .entry)) 0 (first (answer (now (image .entry))) ∷ second (answer (now (image .entry))) ∷ []) ⌝ }
 {
     let v = say(tree::refusal(image));
-    values[0] = v.first;
-    values[1] = v.second;
-    v.number
+    values[0] = v.1;
+    values[1] = v.2;
+    v.0
 }

@@ -15,6 +15,16 @@ unsafe extern "C" {
         texts_len: usize,
         counts: &mut [u32; 4],
     ) -> u32;
+    fn tungvesk_refusal(image: *const u8, image_len: usize, values: &mut [u32; 2]) -> u32;
+}
+
+/// The number of a refusal, its element and 0, or 0 with N and B.
+pub fn refusal(image: &[u8]) -> [u32; 3] {
+    let mut values = [FILL; 2];
+    // The pointer and the length are those of a slice that lives until the call
+    // ends.
+    let number = unsafe { tungvesk_refusal(image.as_ptr(), image.len(), &mut values) };
+    [number, values[0], values[1]]
 }
 
 /// What the buffers hold before a call.

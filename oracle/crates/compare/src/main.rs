@@ -14,6 +14,9 @@ use oracle::{
 mod comments;
 #[cfg(library)]
 mod library;
+#[cfg(library)]
+mod refusals;
+#[cfg_attr(not(library), allow(dead_code))]
 mod report;
 
 use report::Report;
@@ -56,8 +59,21 @@ fn run(seed: u64, count: u64) -> Vec<Report> {
     }
     let rate = count as f64 / start.elapsed().as_secs_f64();
     println!("seed {seed}: {count} images, printed by the original at {rate:.0} a second");
-    #[cfg(library)]
-    return vec![comments::of_images(&images), comments::exhaustive()];
-    #[cfg(not(library))]
+    compare(&images, seed)
+}
+
+#[cfg(library)]
+fn compare(images: &[Vec<u8>], seed: u64) -> Vec<Report> {
+    let (refusals, counts) = refusals::compare(images, seed);
+    println!("images by refusal, from none to 9: {counts:?}");
+    vec![
+        refusals,
+        comments::of_images(images),
+        comments::exhaustive(),
+    ]
+}
+
+#[cfg(not(library))]
+fn compare(_images: &[Vec<u8>], _seed: u64) -> Vec<Report> {
     vec![]
 }
