@@ -1,21 +1,18 @@
 #!/usr/bin/env python3
 """Makes data/vectors.bin, data/large.bin and stdout: what the original prints for comment tokens.
 
-ORACLE is the folder of the oracle, ORACLE_SRC that of the original's files (taken from ORACLE if it is relative). The
-script copies the oracle into a temporary folder, adds items.rs to its programs and a way to `format_comments` to its
-stand-in for the formatter, builds it there and asks it for every token. Running it again writes the same bytes.
+The program `comments` of ../../oracle, which the script builds with cargo, is asked for every token; ORACLE_SRC names the
+directory of the original's files, as for every build there. Running the script again writes the same bytes.
 
 A case of vectors.bin is four fields, each two bytes of length and its bytes: the token's kind, its text, its items above an
-item (and at the end of items, which items.rs checks) and its items inline, or 255 if they are the same. An item is its kind,
+item (and after all items, which the program checks) and its items inline, or 255 if they are the same. An item is its kind,
 and for a text a byte of length and its bytes. A case of large.bin is seven fields: the kind, a head, a piece, how often the
 piece comes, a tail, and for each of the two places three numbers of four bytes: records, text bytes, checksum.
 """
 import itertools
 import os
 import random
-import shutil
 import subprocess
-import tempfile
 
 HERE = os.path.dirname(os.path.abspath(__file__))
 WHITESPACE, MULTI_LINE, TOO_SHORT, UNTERMINATED, HASH, SLASH, MISSING_TOKEN, UNEXPECTED_TOKEN, CUSTOM = range(64, 73)
@@ -25,14 +22,6 @@ LABELS = {
     WHITESPACE: "white space", TOO_SHORT: "comments too short", UNTERMINATED: "comments not ended",
     MISSING_TOKEN: "missing tokens", UNEXPECTED_TOKEN: "unexpected tokens", CUSTOM: "custom errors",
 }
-# A direct way to the function, for the place where no tree puts some tokens.
-DIRECT = """
-pub mod direct {
-    pub use crate::children::ChildTrivia;
-    pub use crate::comments::{CommentLocation, format_comments};
-}
-"""
-
 LETTERS = ["*", " ", "\t", "\n", "a", "\x85"]
 WHITE = [*range(0x09, 0x0E), 0x20, 0x85, 0xA0, 0x1680, *range(0x2000, 0x200B), 0x2028, 0x2029, 0x202F, 0x205F, 0x3000]
 NEAR = [0x08, 0x0E, 0x1C, 0x1F, 0x84, 0x86, 0xA1, 0x180E, 0x200B, 0x2060, 0xFEFF]
@@ -130,18 +119,11 @@ def passes(kind, text):
     return text.startswith({HASH: "#", SLASH: "//"}.get(kind, ""))
 
 
-def build(folder):
-    """The program items.rs, built in a copy of the oracle."""
-    oracle = os.path.abspath(os.environ["ORACLE"])
-    source = os.path.join(oracle, os.environ.get("ORACLE_SRC", "../docs/src"))
-    copy = os.path.join(folder, "oracle")
-    shutil.copytree(oracle, copy, ignore=shutil.ignore_patterns("target"))
-    shutil.copy(os.path.join(HERE, "items.rs"), os.path.join(copy, "src", "bin"))
-    with open(os.path.join(copy, "crates", "jrsonnet-formatter", "src", "lib.rs"), "a") as lib:
-        lib.write(DIRECT)
-    command = ["cargo", "build", "--release", "--offline", "--quiet", "--bin", "items"]
-    subprocess.run(command, cwd=copy, env={**os.environ, "ORACLE_SRC": source}, check=True)
-    return os.path.join(copy, "target", "release", "items")
+def build():
+    """The oracle's program that prints comment tokens."""
+    oracle = os.path.join(HERE, "..", "..", "oracle")
+    subprocess.run(["cargo", "build", "--release", "--offline", "--quiet", "--bin", "comments"], cwd=oracle, check=True)
+    return os.path.join(oracle, "target", "release", "comments")
 
 
 def decoded(data):
@@ -211,8 +193,7 @@ def main():
     texts = [(kind, head + piece * n + tail) for kind, head, piece, n, tail in big]
     assert all(passes(*token) for token in small + texts) and len(set(small)) == len(small)
     assert all(len(text.encode()) in range(31990, 32001) for _, text in texts)
-    with tempfile.TemporaryDirectory() as folder:
-        answers = printed(build(folder), small + texts)
+    answers = printed(build(), small + texts)
     data = b"".join(case(*token, *places) for token, places in zip(small, answers))
     assert len(data) <= 393216, len(data)
     write("data/vectors.bin", data)

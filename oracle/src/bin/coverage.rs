@@ -263,9 +263,12 @@ fn report_branches() {
         };
         println!("| {file} {line} | {entered} | {skipped} |");
     }
-    let least = branches.iter().map(|b| counters::branch(*b)).min();
+    let count = |b: &&counters::Branch| counters::branch(**b);
+    let (never, reached): (Vec<_>, Vec<_>) = branches.iter().partition(|b| count(b) == 0);
+    let least = reached.iter().map(count).min().unwrap_or_default();
+    let never: Vec<String> = never.iter().map(|b| format!("{} {}", b.0, b.1)).collect();
     println!(
-        "\nThe least of these counts is {}.",
-        least.unwrap_or_default()
+        "\nNever reached: {}. The least of the other counts is {least}.",
+        never.join(", ")
     );
 }
