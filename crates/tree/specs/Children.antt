@@ -239,6 +239,12 @@ module _ {image index : List ℕ} (x : Indexed image index) where
   pub children : (i : ℕ) → i < countN image → partsFrom index (textsOf image) (i + 1) (endAt index i) ≡ partsUnder image i (i + 1)
   children i h = parts-from i (i + 1) (child-first indexed-accepted i h)
 
+  -- a child's subtree lies within its parent's
+  pub child-within : (i j : ℕ) → Child image i j → j < endAt index i → endAt index j ≤ endAt index i
+  child-within i j c h =
+      let g : j < endIn image i = rw (end-at i (c .node)) at h in
+      rw (end-at i (c .node), end-at j (omega (arith, end-in image i (c .node)))) (end-under image i j (c .node) (c .behind) g)
+
   -- the index is a table of spans of the texts
   pub table : Table index (textsOf image) (countN image)
   unfolding textsOf

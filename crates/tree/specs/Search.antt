@@ -55,3 +55,9 @@ module _ {image : List ℕ} {G : ℕ → Option ℕ} {T : ℕ → Bool} (w : Sea
 
   pub never : (i : ℕ) → i < countN image → G i ≡ none → T i ≡ false
   never i h g = split-none (T i) i (G (i + 1)) (sym (w .turn i h) ∙ g) .0
+
+-- where no element is found, each fails the test
+pub where-never : (f : Element → Bool) (image : List ℕ) (i : ℕ) → i < countN image → firstWhere f (elementsOf image) ≡ none → f (elementIn image i) ≡ false
+where-never f image i h g =
+    let e : 0 + i ≡ i = omega arith in
+    never (where-search f image) i h (rw e at (still-none (where-search f image) 0 i (omega arith) g))

@@ -176,7 +176,8 @@ pub fn wrong_sizes(image: &[u8]) -> Found
     if sum_of_sizes(image) == read::byte_count(image) as usize {
         return Found::Nothing;
     }
-    Found::At(ElementNumber(read::element_count(image)))
+    let n = read::element_count(image);
+    Found::At(ElementNumber(n))
 }
 
 // Element i is a token whose text is not valid UTF-8.

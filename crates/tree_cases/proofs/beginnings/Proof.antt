@@ -1,7 +1,7 @@
 use mathlib.Core.Path.{sym}
+use Prim.Native.Nat.{_-_, _≤_}
 use native.Mathlib.Omega.{arith}
 use lib.Seq.{length-take-le}
-use Prim.Native.Nat.{_-_, _≤_}
 use lib.ListN.{length}
 use borrow.Author.Needs.{needs}
 use Rattle.tree_cases.proofs.beginnings.Statement.{statement}

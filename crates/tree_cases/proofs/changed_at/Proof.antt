@@ -1,6 +1,5 @@
-use mathlib.Core.Path.{_∙_}
+use mathlib.Core.Path.{_∙_, _≡_}
 use Prim.Native.Nat.{_≤_}
-use mathlib.Core.Path.{_≡_}
 use native.Mathlib.Omega.{arith}
 use lib.ListN.{length}
 use borrow.Author.Needs.{needs}

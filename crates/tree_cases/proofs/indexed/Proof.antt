@@ -1,6 +1,6 @@
 use mathlib.Core.Bool.{false≢true}
-use Rattle.tree.specs.Index.{indexable}
 use borrow.Author.Needs.{needs}
+use Rattle.tree.specs.Index.{indexable}
 use Rattle.tree_cases.proofs.indexed.Statement.{statement}
 use Rattle.tree_cases.proofs.indexed.Tie as tie
 

@@ -1,5 +1,5 @@
-use Rattle.tree.specs.Index.{endAt}
 use borrow.Author.Needs.{needs}
+use Rattle.tree.specs.Index.{endAt}
 use Rattle.tree.proofs.access.end_at.Statement.{statement}
 use Rattle.tree.proofs.access.end_at.Tie as tie
 

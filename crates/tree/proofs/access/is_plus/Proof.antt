@@ -1,5 +1,5 @@
-use Rattle.tree.specs.Class.{isPlus}
 use borrow.Author.Needs.{needs}
+use Rattle.tree.specs.Class.{isPlus}
 use Rattle.tree.proofs.access.is_plus.Statement.{statement}
 use Rattle.tree.proofs.access.is_plus.Tie as tie
 

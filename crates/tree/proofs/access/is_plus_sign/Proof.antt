@@ -1,6 +1,6 @@
-use Rattle.tree.proofs.Parts.{sign-other, sign-one}
-use Rattle.text.specs.Basic.{sameBytes}
 use borrow.Author.Needs.{needs}
+use Rattle.text.specs.Basic.{sameBytes}
+use Rattle.tree.proofs.Parts.{sign-other, sign-one}
 use Rattle.tree.proofs.access.is_plus_sign.Statement.{statement}
 use Rattle.tree.proofs.access.is_plus_sign.Tie as tie
 

@@ -1,5 +1,5 @@
-use Rattle.tree.specs.Index.{kindAt}
 use borrow.Author.Needs.{needs}
+use Rattle.tree.specs.Index.{kindAt}
 use Rattle.tree.proofs.access.kind_at.Statement.{statement}
 use Rattle.tree.proofs.access.kind_at.Tie as tie
 

@@ -1,10 +1,10 @@
 use Prim.Native.Nat.{_-_}
-use Rattle.tree.specs.Index.{partsFrom}
+use borrow.Author.Needs.{needs}
 use Rattle.text.specs.Basic.{orElse}
+use Rattle.tree.specs.Index.{partsFrom}
 use Rattle.tree.specs.Answer.{found}
 use Rattle.tree.specs.Class.{lastOf, numberOf}
 use Rattle.tree.proofs.Looking.{Looking, looking-on, looking-all, looking-less, last-on, last-over, or-else-none}
-use borrow.Author.Needs.{needs}
 use Rattle.tree.proofs.access.last_of.Statement.{statement}
 use Rattle.tree.proofs.access.last_of.Tie as tie
 

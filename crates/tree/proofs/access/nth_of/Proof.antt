@@ -1,10 +1,10 @@
 use mathlib.Core.Path.{refl}
 use mathlib.Core.Option.{none}
 use Prim.Native.Nat.{_-_}
+use borrow.Author.Needs.{needs}
 use Rattle.tree.specs.Index.{partsFrom}
 use Rattle.tree.specs.Class.{nthOf, numberOf}
 use Rattle.tree.proofs.Looking.{Looking, looking-on, looking-met, looking-all, looking-less, nth-here, nth-on, nth-over}
-use borrow.Author.Needs.{needs}
 use Rattle.tree.proofs.access.nth_of.Statement.{statement}
 use Rattle.tree.proofs.access.nth_of.Tie as tie
 

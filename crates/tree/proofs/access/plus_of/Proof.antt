@@ -1,10 +1,10 @@
 use mathlib.Core.Path.{refl}
 use mathlib.Core.Option.{none}
 use Prim.Native.Nat.{_-_}
+use borrow.Author.Needs.{needs}
 use Rattle.tree.specs.Index.{partsFrom}
 use Rattle.tree.specs.Class.{plusOf, numberOf}
 use Rattle.tree.proofs.Looking.{Looking, looking-on, looking-met, looking-all, looking-less, plus-here, plus-on, plus-over}
-use borrow.Author.Needs.{needs}
 use Rattle.tree.proofs.access.plus_of.Statement.{statement}
 use Rattle.tree.proofs.access.plus_of.Tie as tie
 

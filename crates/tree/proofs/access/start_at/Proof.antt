@@ -1,5 +1,5 @@
-use Rattle.tree.specs.Index.{startAt}
 use borrow.Author.Needs.{needs}
+use Rattle.tree.specs.Index.{startAt}
 use Rattle.tree.proofs.access.start_at.Statement.{statement}
 use Rattle.tree.proofs.access.start_at.Tie as tie
 

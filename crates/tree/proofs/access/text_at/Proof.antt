@@ -1,6 +1,6 @@
-use Rattle.tree.proofs.Parts.{text-as}
-use Rattle.tree.specs.Index.{textAt}
 use borrow.Author.Needs.{needs}
+use Rattle.tree.specs.Index.{textAt}
+use Rattle.tree.proofs.Parts.{text-as}
 use Rattle.tree.proofs.access.text_at.Statement.{statement}
 use Rattle.tree.proofs.access.text_at.Tie as tie
 

@@ -1,7 +1,7 @@
 use Prim.Native.Nat.{_-_}
 use native.Mathlib.Omega.{arith}
-use Rattle.tree.proofs.Ending.{Ending, ending-none, ending-all, ending-met, ending-more, ending-less}
 use borrow.Author.Needs.{needs}
+use Rattle.tree.proofs.Ending.{Ending, ending-none, ending-all, ending-met, ending-more, ending-less}
 use Rattle.tree.proofs.index.find_end.Statement.{statement}
 use Rattle.tree.proofs.index.find_end.Tie as tie
 

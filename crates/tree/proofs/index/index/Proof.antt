@@ -1,6 +1,6 @@
 use native.Mathlib.Omega.{arith}
-use Rattle.tree.proofs.Filling.{Filling, filling-none, filling-start, filling-behind, filling-more, filling-all}
 use borrow.Author.Needs.{needs}
+use Rattle.tree.proofs.Filling.{Filling, filling-none, filling-start, filling-behind, filling-more, filling-all}
 use Rattle.tree.proofs.index.index.Statement.{statement}
 use Rattle.tree.proofs.index.index.Tie as tie
 

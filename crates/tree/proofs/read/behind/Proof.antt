@@ -1,5 +1,5 @@
-use Rattle.tree.proofs.Parts.{rest-whole, rest-none}
 use borrow.Author.Needs.{needs}
+use Rattle.tree.proofs.Parts.{rest-whole, rest-none}
 use Rattle.tree.proofs.read.behind.Statement.{statement}
 use Rattle.tree.proofs.read.behind.Tie as tie
 

@@ -1,5 +1,5 @@
-use Rattle.tree.specs.Tree.{countB}
 use borrow.Author.Needs.{needs}
+use Rattle.tree.specs.Tree.{countB}
 use Rattle.tree.proofs.read.byte_count.Statement.{statement}
 use Rattle.tree.proofs.read.byte_count.Tie as tie
 

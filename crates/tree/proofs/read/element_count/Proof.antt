@@ -1,5 +1,5 @@
-use Rattle.tree.specs.Tree.{countN}
 use borrow.Author.Needs.{needs}
+use Rattle.tree.specs.Tree.{countN}
 use Rattle.tree.proofs.read.element_count.Statement.{statement}
 use Rattle.tree.proofs.read.element_count.Tie as tie
 

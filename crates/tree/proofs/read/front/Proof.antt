@@ -1,7 +1,7 @@
 use mathlib.Core.Path.{sym}
 use lib.Seq.{length-take-le}
-use Rattle.tree.proofs.Parts.{front-whole}
 use borrow.Author.Needs.{needs}
+use Rattle.tree.proofs.Parts.{front-whole}
 use Rattle.tree.proofs.read.front.Statement.{statement}
 use Rattle.tree.proofs.read.front.Tie as tie
 

@@ -1,5 +1,5 @@
-use Rattle.tree.specs.Image.{kindIn}
 use borrow.Author.Needs.{needs}
+use Rattle.tree.specs.Image.{kindIn}
 use Rattle.tree.proofs.read.kind_of.Statement.{statement}
 use Rattle.tree.proofs.read.kind_of.Tie as tie
 

@@ -1,5 +1,5 @@
-use Rattle.tree.specs.Image.{levelIn}
 use borrow.Author.Needs.{needs}
+use Rattle.tree.specs.Image.{levelIn}
 use Rattle.tree.proofs.read.level_of.Statement.{statement}
 use Rattle.tree.proofs.read.level_of.Tie as tie
 

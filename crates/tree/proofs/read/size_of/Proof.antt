@@ -1,5 +1,5 @@
-use Rattle.tree.specs.Image.{sizeIn}
 use borrow.Author.Needs.{needs}
+use Rattle.tree.specs.Image.{sizeIn}
 use Rattle.tree.proofs.read.size_of.Statement.{statement}
 use Rattle.tree.proofs.read.size_of.Tie as tie
 

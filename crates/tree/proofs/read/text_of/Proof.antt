@@ -1,5 +1,5 @@
-use Rattle.tree.specs.Image.{textIn}
 use borrow.Author.Needs.{needs}
+use Rattle.tree.specs.Image.{textIn}
 use Rattle.tree.proofs.read.text_of.Statement.{statement}
 use Rattle.tree.proofs.read.text_of.Tie as tie
 

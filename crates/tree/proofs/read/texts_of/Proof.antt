@@ -1,5 +1,5 @@
-use Rattle.tree.specs.Tree.{textsOf}
 use borrow.Author.Needs.{needs}
+use Rattle.tree.specs.Tree.{textsOf}
 use Rattle.tree.proofs.read.texts_of.Statement.{statement}
 use Rattle.tree.proofs.read.texts_of.Tie as tie
 

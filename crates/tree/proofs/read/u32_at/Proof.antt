@@ -1,6 +1,6 @@
 use native.Mathlib.Omega.{arith}
-use Rattle.tree.specs.Tree.{le32}
 use borrow.Author.Needs.{needs}
+use Rattle.tree.specs.Tree.{le32}
 use Rattle.tree.proofs.read.u32_at.Statement.{statement}
 use Rattle.tree.proofs.read.u32_at.Tie as tie
 

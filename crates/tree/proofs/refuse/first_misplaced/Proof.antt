@@ -1,10 +1,10 @@
 use Prim.Native.Nat.{_-_, _≤_}
 use native.Mathlib.Omega.{arith}
+use borrow.Author.Needs.{needs}
 use Rattle.tree.specs.Search.{misplacedFrom, misplaced-search}
-use Rattle.tree.proofs.Search.{Walking, search-more, search-hit, search-all, misplaced-empty, misplaced-first, misplaced-later}
 use Rattle.tree.specs.Tree.{elementsOf}
 use Rattle.tree.specs.Refusal.{firstMisplaced}
-use borrow.Author.Needs.{needs}
+use Rattle.tree.proofs.Search.{Walking, search-more, search-hit, search-all, misplaced-empty, misplaced-first, misplaced-later}
 use Rattle.tree.proofs.refuse.first_misplaced.Statement.{statement}
 use Rattle.tree.proofs.refuse.first_misplaced.Tie as tie
 

@@ -1,12 +1,12 @@
+use mathlib.Core.Path.{refl}
 use Prim.Native.Nat.{_-_}
 use native.Mathlib.Omega.{arith}
-use Rattle.tree.specs.Search.{nameless-search}
-use Rattle.tree.proofs.Search.{Walking, search-more, search-hit, search-all}
-use mathlib.Core.Path.{refl}
 use lib.ListN.{drop}
+use borrow.Author.Needs.{needs}
+use Rattle.tree.specs.Search.{nameless-search}
 use Rattle.tree.specs.Tree.{elementsOf}
 use Rattle.tree.specs.Refusal.{firstNameless}
-use borrow.Author.Needs.{needs}
+use Rattle.tree.proofs.Search.{Walking, search-more, search-hit, search-all}
 use Rattle.tree.proofs.refuse.first_nameless.Statement.{statement}
 use Rattle.tree.proofs.refuse.first_nameless.Tie as tie
 

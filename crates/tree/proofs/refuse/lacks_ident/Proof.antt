@@ -1,9 +1,9 @@
-use Rattle.tree.specs.Image.{levelIn}
+use mathlib.Core.Bool.{true, false}
 use Prim.Native.Nat.{_+_, _-_}
 use native.Mathlib.Omega.{arith}
-use Rattle.tree.proofs.Search.{Walking, walking-on, walking-met, walking-all, noIdentFrom, ident-none, ident-here, ident-later, ident-over}
-use mathlib.Core.Bool.{true, false}
 use borrow.Author.Needs.{needs}
+use Rattle.tree.specs.Image.{levelIn}
+use Rattle.tree.proofs.Search.{Walking, walking-on, walking-met, walking-all, noIdentFrom, ident-none, ident-here, ident-later, ident-over}
 use Rattle.tree.proofs.refuse.lacks_ident.Statement.{statement}
 use Rattle.tree.proofs.refuse.lacks_ident.Tie as tie
 

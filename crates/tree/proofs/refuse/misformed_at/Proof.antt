@@ -1,5 +1,5 @@
-use Rattle.tree.proofs.Comments.{misformed-hash, misformed-slash, misformed-multi, misformed-other}
 use borrow.Author.Needs.{needs}
+use Rattle.tree.proofs.Comments.{misformed-hash, misformed-slash, misformed-multi, misformed-other}
 use Rattle.tree.proofs.refuse.misformed_at.Statement.{statement}
 use Rattle.tree.proofs.refuse.misformed_at.Tie as tie
 

@@ -1,5 +1,5 @@
-use Rattle.tree.specs.Refusal.{misplaced}
 use borrow.Author.Needs.{needs}
+use Rattle.tree.specs.Refusal.{misplaced}
 use Rattle.tree.proofs.refuse.misplaced_at.Statement.{statement}
 use Rattle.tree.proofs.refuse.misplaced_at.Tie as tie
 

@@ -1,5 +1,5 @@
-use Rattle.tree.specs.Refusal.{nodeWithText}
 use borrow.Author.Needs.{needs}
+use Rattle.tree.specs.Refusal.{nodeWithText}
 use Rattle.tree.proofs.refuse.node_with_text_at.Statement.{statement}
 use Rattle.tree.proofs.refuse.node_with_text_at.Tie as tie
 

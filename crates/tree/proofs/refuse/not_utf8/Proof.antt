@@ -1,12 +1,12 @@
 use mathlib.Core.Path.{refl}
 use Prim.Native.Nat.{_-_}
 use lib.ListN.{drop}
+use borrow.Author.Needs.{needs}
 use Rattle.tree.specs.Tree.{elementsOf}
 use Rattle.tree.specs.Refusal.{firstWhere, notUtf8}
 use Rattle.tree.specs.Search.{where-search}
 use Rattle.tree.proofs.Search.{Walking, search-more, search-hit, search-all}
 use Rattle.tree.proofs.Sums.{Summing, summing-none, summing-more}
-use borrow.Author.Needs.{needs}
 use Rattle.tree.proofs.refuse.not_utf8.Statement.{statement}
 use Rattle.tree.proofs.refuse.not_utf8.Tie as tie
 

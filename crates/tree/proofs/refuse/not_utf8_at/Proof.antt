@@ -1,6 +1,6 @@
 use borrow.Author.Tests.{le-leb, lt-leb}
-use Rattle.tree.specs.Refusal.{notUtf8}
 use borrow.Author.Needs.{needs}
+use Rattle.tree.specs.Refusal.{notUtf8}
 use Rattle.tree.proofs.refuse.not_utf8_at.Statement.{statement}
 use Rattle.tree.proofs.refuse.not_utf8_at.Tie as tie
 

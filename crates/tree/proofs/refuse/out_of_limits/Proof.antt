@@ -1,5 +1,5 @@
-use Rattle.tree.specs.Refusal.{outOfLimits}
 use borrow.Author.Needs.{needs}
+use Rattle.tree.specs.Refusal.{outOfLimits}
 use Rattle.tree.proofs.refuse.out_of_limits.Statement.{statement}
 use Rattle.tree.proofs.refuse.out_of_limits.Tie as tie
 

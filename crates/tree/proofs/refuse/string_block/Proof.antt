@@ -1,11 +1,11 @@
-use Prim.Native.Nat.{_-_}
-use Rattle.tree.specs.Search.{where-search}
-use Rattle.tree.proofs.Search.{Walking, search-more, search-hit, search-all}
 use mathlib.Core.Path.{refl}
+use Prim.Native.Nat.{_-_}
 use lib.ListN.{drop}
+use borrow.Author.Needs.{needs}
+use Rattle.tree.specs.Search.{where-search}
 use Rattle.tree.specs.Tree.{elementsOf}
 use Rattle.tree.specs.Refusal.{firstWhere, stringBlock}
-use borrow.Author.Needs.{needs}
+use Rattle.tree.proofs.Search.{Walking, search-more, search-hit, search-all}
 use Rattle.tree.proofs.refuse.string_block.Statement.{statement}
 use Rattle.tree.proofs.refuse.string_block.Tie as tie
 

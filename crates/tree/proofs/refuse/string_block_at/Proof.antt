@@ -1,5 +1,5 @@
-use Rattle.tree.specs.Refusal.{stringBlock}
 use borrow.Author.Needs.{needs}
+use Rattle.tree.specs.Refusal.{stringBlock}
 use Rattle.tree.proofs.refuse.string_block_at.Statement.{statement}
 use Rattle.tree.proofs.refuse.string_block_at.Tie as tie
 

@@ -1,6 +1,6 @@
 use Prim.Native.Nat.{_-_}
-use Rattle.tree.proofs.Sums.{Summing, summing-none, summing-more, summing-all}
 use borrow.Author.Needs.{needs}
+use Rattle.tree.proofs.Sums.{Summing, summing-none, summing-more, summing-all}
 use Rattle.tree.proofs.refuse.sum_of_sizes.Statement.{statement}
 use Rattle.tree.proofs.refuse.sum_of_sizes.Tie as tie
 

@@ -1,5 +1,5 @@
-use Rattle.tree.specs.Refusal.{unknownKind}
 use borrow.Author.Needs.{needs}
+use Rattle.tree.specs.Refusal.{unknownKind}
 use Rattle.tree.proofs.refuse.unknown_kind_at.Statement.{statement}
 use Rattle.tree.proofs.refuse.unknown_kind_at.Tie as tie
 

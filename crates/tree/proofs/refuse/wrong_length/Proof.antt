@@ -1,5 +1,5 @@
-use Rattle.tree.specs.Refusal.{wrongLength}
 use borrow.Author.Needs.{needs}
+use Rattle.tree.specs.Refusal.{wrongLength}
 use Rattle.tree.proofs.refuse.wrong_length.Statement.{statement}
 use Rattle.tree.proofs.refuse.wrong_length.Tie as tie
 

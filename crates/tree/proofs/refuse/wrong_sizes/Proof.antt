@@ -1,5 +1,5 @@
-use Rattle.tree.proofs.Sums.{sizes-node, sizes-right, sizes-wrong}
 use borrow.Author.Needs.{needs}
+use Rattle.tree.proofs.Sums.{sizes-node, sizes-right, sizes-wrong}
 use Rattle.tree.proofs.refuse.wrong_sizes.Statement.{statement}
 use Rattle.tree.proofs.refuse.wrong_sizes.Tie as tie
 
