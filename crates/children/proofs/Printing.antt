@@ -65,12 +65,16 @@ module _ {index text : List ℕ} {w : Kinds} {from b : ℕ} {loc : Location} {o 
 
 -- ---- a gap's lists
 
+-- these kinds are those
+pub kinds-printed : {v w : Kinds} (xs : List Part) (loc : Location) {o a : Held} → v ≡ w → Prints (comments (allOf v xs) loc) o a → Prints (comments (allOf w xs) loc) o a
+kinds-printed xs loc e h = rw (← e) h
+
 module _ (index text : List ℕ) (s : Span) (loc : Location) {o a : Held} where
   pub inline-printed : {w : Kinds} → w ≡ kinds Class.Trivia → Prints (comments (allOf w (partsFrom index text (s .from) (s .cut))) loc) o a → Prints (comments (gapAt index text s .inline) loc) o a
   unfolding inlineIn
-  inline-printed e h = rw (← e) h
+  inline-printed e h = kinds-printed _ loc e h
 
   pub waiting-printed : {v w : Kinds} {c : Held} → v ≡ kinds Class.CustomError → Prints (comments (allOf v (partsFrom index text (s .from) (s .cut))) loc) o c
       → w ≡ notes → Prints (comments (allOf w (partsFrom index text (s .cut) (s .to))) loc) c a → Prints (comments (gapAt index text s .waiting) loc) o a
   unfolding waitingIn
-  waiting-printed {v} {w} {c} e h f k = comments-both _ _ loc {a = c} (rw e at h) (rw f at k)
+  waiting-printed e h f k = comments-both _ _ loc (kinds-printed _ loc e h) (kinds-printed _ loc f k)

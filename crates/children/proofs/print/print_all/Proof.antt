@@ -21,9 +21,9 @@ print-all-spec =
     (λ c. search printing-none)  -- loop-holds
     (λ c κs. search needs)  -- print-one-requires
     (λ c κs. search needs)  -- end-at-requires
-    (λ c. search needs)  -- same-length
-    (λ c. search needs)  -- same-length-2
     (λ c. search printing-less)  -- loop-less
     (λ c. search printing-more)  -- loop-again
+    (λ c. printing-all (c .before .loop .inv) (c .loop-test .left) .sameRecords)  -- same-length
+    (λ c. printing-all (c .before .loop .inv) (c .loop-test .left) .sameTexts)  -- same-length-2
     (λ c. search printing-all)  -- returns
     )
