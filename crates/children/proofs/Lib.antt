@@ -6,3 +6,4 @@ mod Leading
 mod Sums
 mod Surveying
 mod Printing
+mod Arounds

@@ -8,3 +8,4 @@ pub mod Spans
 pub mod Lead
 pub mod Uses
 pub mod Comments
+pub mod Between

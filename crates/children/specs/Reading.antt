@@ -222,3 +222,13 @@ strict (x ∷ xs) = cond (isNote x) (withTrivia x (strict xs)) (cond (is Class.S
 unfoldable pub leading : List Part → List Part
 leading [] = []
 leading (x ∷ xs) = cond (isNote x) (x ∷ leading xs) []
+
+-- trivia_before of a SourceFile: up to the expression, or 'without an expression'
+unfoldable pub triviaBefore : Option Part → List Part → Around
+triviaBefore none xs = trivia (leading xs)
+triviaBefore (some x) xs = strict (upTo (x .number) xs)
+
+-- trivia_after of a SourceFile: behind the expression; without one 'the second is empty'
+unfoldable pub triviaAfter : Option Part → List Part → Around
+triviaAfter none xs = trivia []
+triviaAfter (some x) xs = strict (behind (x .number) xs)

@@ -55,6 +55,13 @@ module _ {index text : List ℕ} {n : ℕ} (t : Table index text n) where
   jumps-next here g = jump g here
   jumps-next (jump h k) g = jump h (jumps-next k g)
 
+  -- of two that are reached, the further one is reached from behind the nearer
+  pub jumps-behind : {a j e : ℕ} → Jumps index n a j → Jumps index n a e → j < e → Jumps index n (endAt index j) e
+  jumps-behind here here h = absurd (omega arith)
+  jumps-behind here (jump g k) h = k
+  jumps-behind (jump {a} g k) here h = absurd (omega (arith, t .past a g, jumps-le k))
+  jumps-behind (jump g k) (jump g′ k′) h = jumps-behind k k′ h
+
 -- b is reached from a by jumps, in an index of a tree.
 pub record Stretch (index text : List ℕ) (a b : ℕ) : Type 0 where
   pub n : ℕ

@@ -28,7 +28,7 @@ pub struct Outline {
 }
 
 // Whether nothing was found.
-fn is_nothing(f: Found) -> bool
+pub fn is_nothing(f: Found) -> bool
     ensures { λ r. ⌜ r ≡ not (present (found f)) ⌝ }
 {
     match f {
