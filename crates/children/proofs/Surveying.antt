@@ -1,24 +1,28 @@
 -- The loop of `survey_from`, and what waits in a gap.
-use mathlib.Core.Path.{_≡_, refl, ap, _∙_}
+use mathlib.Core.Path.{_≡_, refl, ap, _∙_, sym}
 use mathlib.Core.Bool.{Bool, true, false, cond, not, _&&_, _||_}
 use mathlib.Core.Option.{Option, some}
 use mathlib.Core.List.{List, [], _∷_, _++_}
 use Prim.Native.Nat.{ℕ, suc, _+_, _-_, _<_, _≤_}
 use native.Mathlib.Omega.{arith}
 use native.Mathlib.Numerals.{add-one}
+use native.Mathlib.Nat.{add-zero}
 use lib.Dec.{eqb, leb}
-use borrow.Author.Tests.{eq-eqb, ne-eqb}
-use Rattle.text.specs.Basic.{isNil, present}
+use borrow.Author.Tests.{eq-eqb, ne-eqb, not-true, not-false}
+use Rattle.text.specs.Basic.{isNil, present, any}
 use Rattle.tree.specs.Tree.{Part}
 use Rattle.tree.specs.declared.class.Class.the-variants as Class
 use Rattle.tree.specs.declared.class.Kinds.{Kinds}
 use Rattle.tree.specs.Class.{kinds, oneOf, nthOf, numberOf, allOf}
-use Rattle.tree.specs.Index.{Region, partsFrom, endAt}
+use Rattle.tree.specs.Index.{Region, partsFrom, partAt, endAt}
 use Rattle.tree.specs.Parts.{region-next, region-past}
 use Rattle.children.specs.declared.gap.Span.{Span}
 use Rattle.children.specs.declared.survey.Outline.{Outline}
 use Rattle.children.specs.Gaps as G
-use Rattle.children.specs.Gaps.{gaps, newlinesAt, gapSums}
+use Rattle.children.specs.Gaps.{Gaps, gaps, newlinesAt, gapSums}
+use Rattle.children.specs.Reading.{newlinesBefore, newlinesBack}
+use Rattle.children.specs.Whole.{sumsOf, first-sums}
+use Rattle.children.specs.Lead.{Leads, leads, led, leadAt, childAfter, readingAfter, SurveyedAfter}
 use Rattle.children.specs.Stretch.{notes, waitingIn, jumps-le}
 use Rattle.children.specs.Spans.{Spans, spanned, gapAt, Surveying, SurveyedFrom, Surveyed, surveyed}
 
@@ -73,6 +77,53 @@ module _ {index text : List ℕ} {w : Kinds} {l : Bool} {from b : ℕ} {s : Span
 
   pub survey-whole : {r : Outline} → SurveyedFrom index text w l b s 0 false r → Surveyed index text w l from b r
   survey-whole k = record { lies = k .lies; read = ap (gapSums 0 false) (h .read) ∙ k .read }
+
+-- ---- the whole of a reading with a trailing list
+
+module _ {index text : List ℕ} {w : Kinds} {l : Bool} {from b : ℕ} {s : Span} (h : Leads index text w l from b s) (t : Span) where
+  as-led : sumsOf (readingAfter (gapAt index text t .waiting) (leads w l (partsFrom index text from b))) ≡ sumsOf (readingAfter (gapAt index text t .waiting) (led index text w l b s))
+  as-led = ap (λ (gs : Gaps). sumsOf (readingAfter (gapAt index text t .waiting) gs)) (h .read)
+
+  -- no child
+  pub after-alone : {n : ℕ} {r : Outline} → (s .end ≡ 0 → ⊥) → n ≡ newlinesBefore (gapAt index text s .waiting) → r ≡ record { children = 0; many = false; blank = leb 2 n; last = s } → SurveyedAfter index text w l t from b r
+  unfolding led readingAfter sumsOf surveyed any newlinesBack
+  after-alone {n} e z q = rw q (record { lies = h .lies; read = as-led ∙ rw (ne-eqb (s .end) 0 e, z) (go (eqb (s .end) 1)) })
+    where
+      go : (u : Bool) → sumsOf (readingAfter (gapAt index text t .waiting) (cond u (G.ending (leadAt index text s)) (G.stopped (s .to))))
+          ≡ cond u (G.sums 0 false (leb 2 (newlinesBefore (gapAt index text s .waiting))) (gapAt index text s .waiting)) (G.foreignAt (s .to))
+      go true = rw (add-zero (newlinesBefore (gapAt index text s .waiting)))
+      go false = refl
+
+  module _ (e : s .end ≡ 0) {q : Bool} (z : q ≡ isNil (gapAt index text s .waiting)) where
+    -- an error bars the first child
+    pub after-barred : {o : Span} {r : Outline} → not q ≡ true → o ≡ record { from = s .from; cut = s .cut; to = s .to; had = s .had; end = 2 } → r ≡ record { children = 0; many = false; blank = false; last = o } → SurveyedAfter index text w l t from b r
+    unfolding led readingAfter sumsOf surveyed
+    after-barred k p d = rw (d, p) (record { lies = record { first = h .lies .first; second = h .lies .second }; read = as-led ∙ rw (eq-eqb (s .end) 0 e, ← z, not-true q k) })
+
+    -- the first child takes the list
+    taken : not q ≡ false → {m : ℕ} → m ≡ newlinesBefore (gapAt index text t .waiting)
+        → sumsOf (readingAfter (gapAt index text t .waiting) (led index text w l b s)) ≡ gapSums 1 (leb 1 m) (gaps w l false true (partsFrom index text (endAt index (s .to)) b))
+    unfolding led readingAfter newlinesBack
+    taken k {m} d =
+        rw (eq-eqb (s .end) 0 e, ← z, not-false q k)
+        (sym (first-sums (childAfter (gapAt index text t .waiting) (partAt index text (s .to))) (gaps w l false true (partsFrom index text (endAt index (s .to)) b)))
+        ∙ ap (λ (i : ℕ). gapSums 1 (leb 1 i) (gaps w l false true (partsFrom index text (endAt index (s .to)) b))) (add-zero (newlinesBefore (gapAt index text t .waiting)) ∙ sym d))
+
+    module _ {next : ℕ} (n : next ≡ endAt index (s .to)) where
+      pub after-region : Region index text next b
+      after-region = rw n (region-next (h .onward) (h .inside e))
+
+      module _ {g : Span} (k : Spans index text w l true next b g) where
+        pub after-start : Surveying index text b g 1
+        after-start = record {
+          lies = k .lies;
+          onward = k .onward;
+          inside = k .inside;
+          few = omega (arith, region-past (h .onward) (h .inside e), n, k .begins, jumps-le (k .lies .first .table) (k .lies .first .jumps), jumps-le (k .lies .second .table) (k .lies .second .jumps));
+        }
+
+        pub after-whole : {m : ℕ} {r : Outline} → not q ≡ false → m ≡ newlinesBefore (gapAt index text t .waiting) → SurveyedFrom index text w l b g 1 (leb 1 m) r → SurveyedAfter index text w l t from b r
+        after-whole {m} i d v = record { lies = v .lies; read = as-led ∙ taken i d ∙ ap (gapSums 1 (leb 1 m)) (rw n at (k .read)) ∙ v .read }
 
 -- ---- nothing waits
 

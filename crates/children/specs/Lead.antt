@@ -8,6 +8,7 @@ use lib.Dec.{leb, eqb}
 use Rattle.tree.specs.declared.class.Kinds.{Kinds}
 use Rattle.tree.specs.Class.{is, kinds}
 use Rattle.children.specs.declared.gap.Span.{Span}
+use Rattle.children.specs.declared.survey.Outline.{Outline}
 use Rattle.text.specs.Basic.{isNil}
 use Rattle.tree.specs.Tree.{Part}
 use Rattle.children.specs.Reading.{Child, Reading, foreign, read, Pass, pass, step, start, newlines}
@@ -15,8 +16,8 @@ use Rattle.children.specs.Gaps.{Go, Turn, Gap, gapOf, Gaps, stopped, end
 use Rattle.children.specs.Glue.{pass-gaps}
 use Rattle.tree.specs.Index.{Region, partsFrom, partAt, endAt}
 use Rattle.children.specs.Stretch.{waitingIn}
-use Rattle.children.specs.Spans.{Lies}
-use Rattle.children.specs.Whole.{readFrom, endingAt, glued-from, preceded-none}
+use Rattle.children.specs.Spans.{Lies, gapAt, surveyed}
+use Rattle.children.specs.Whole.{readFrom, endingAt, glued-from, preceded-none, sumsOf}
 use Rattle.tree.specs.declared.class.Class.{Class}
 use Rattle.tree.specs.declared.class.Class.the-variants as Class
 use Rattle.children.specs.Reading as R
@@ -137,3 +138,8 @@ pub record Leads (index text : List ℕ) (w : Kinds) (loose : Bool) (from b : �
   pub onward : Region index text (r .to) b
   pub inside : r .end ≡ 0 → r .to < b
   pub read : leads w loose (partsFrom index text from b) ≡ led index text w loose b r
+
+-- r is the survey of a reading from `from` up to b whose trailing list is what waits in the gap t.
+pub record SurveyedAfter (index text : List ℕ) (w : Kinds) (loose : Bool) (t : Span) (from b : ℕ) (r : Outline) : Type 0 where
+  pub lies : Lies index text (r .last)
+  pub read : sumsOf (readingAfter (gapAt index text t .waiting) (leads w loose (partsFrom index text from b))) ≡ surveyed index text r

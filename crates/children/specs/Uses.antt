@@ -1,7 +1,7 @@
 -- What callers of `gap` and `survey` cite.
 use mathlib.Core.Path.{_≡_, ap, _∙_, sym}
 use mathlib.Core.Bool.{Bool, true, false, not}
-use mathlib.Core.Option.{none}
+use mathlib.Core.Option.{none, some}
 use mathlib.Core.List.{List}
 use Prim.Native.Nat.{ℕ}
 use native.Mathlib.Omega.{arith}
@@ -14,6 +14,7 @@ use Rattle.children.specs.Reading.{pass, start}
 use Rattle.children.specs.Gaps.{Gaps, stopped, ending, gaps}
 use Rattle.tree.specs.Index.{Region, partsFrom, partAt, endAt}
 use Rattle.children.specs.Spans.{Spans, spanned, gapAt, Surveyed, surveyed}
+use Rattle.children.specs.Lead.{SurveyedAfter, whole-after}
 use Rattle.children.specs.Whole.{whole, whole-sums, sumsOf}
 use Rattle.tree.specs.declared.class.Class.{Class}
 use Rattle.tree.specs.declared.class.Class.the-variants as Class
@@ -42,3 +43,8 @@ module _ {index text : List ℕ} {w : Kinds} {loose after : Bool} {from b : ℕ}
 pub survey-reading : (wanted : Class) {index text : List ℕ} {loose : Bool} {from b : ℕ} {r : Outline} → Surveyed index text (kinds wanted) loose from b r
     → sumsOf (pass wanted loose (partsFrom index text from b) (start none)) ≡ surveyed index text r
 survey-reading wanted h = ap sumsOf (whole wanted _ _) ∙ sym (whole-sums _) ∙ h .read
+
+-- And that of a reading with a trailing list.
+pub survey-after-reading : (wanted : Class) {index text : List ℕ} {loose : Bool} {t : Span} {from b : ℕ} {r : Outline} → SurveyedAfter index text (kinds wanted) loose t from b r
+    → sumsOf (pass wanted loose (partsFrom index text from b) (start (some (gapAt index text t .waiting)))) ≡ surveyed index text r
+survey-after-reading wanted h = ap sumsOf (whole-after wanted _ _ _) ∙ h .read

@@ -153,9 +153,13 @@ shifted-none : (r : Sums) → shifted 0 false r ≡ r
 shifted-none (foreignAt n) = refl
 shifted-none (sums k m b t) = same-sums (0 + k) k m m b t (omega arith) refl
 
+-- from the first child on
+pub first-sums : (c : Child) (gs : Gaps) → gapSums 1 (c .manyLines) gs ≡ sumsOf (readFrom c gs)
+first-sums c gs = sums-from gs c 0 false ∙ shifted-none (sumsOf (readFrom c gs))
+
 -- The survey of a reading's gaps is the survey of the reading.
 pub whole-sums : (gs : Gaps) → gapSums 0 false gs ≡ sumsOf (readingOf gs)
 unfolding gapSums readingOf sumsOf any
 whole-sums (stopped n) = refl
 whole-sums (ending g) = refl
-whole-sums (Gaps.child g x gs) = sums-from gs (childAt g x) 0 false ∙ shifted-none (sumsOf (readFrom (childAt g x) gs))
+whole-sums (Gaps.child g x gs) = first-sums (childAt g x) gs

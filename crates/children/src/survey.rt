@@ -1,8 +1,11 @@
 // What a reading comes to, before anything of it is printed.
 use super::gap::AT_CHILD;
+use super::gap::AT_FOREIGN;
 use super::gap::Span;
 use super::gap::gap;
+use super::gap::lead;
 use super::newlines::newlines_at;
+use super::newlines::waiting_newlines;
 use super::turn::note_kinds;
 use tree::Found;
 use tree::access::end_at;
@@ -11,11 +14,12 @@ use tree::class::Class;
 use tree::class::Kinds;
 use tree::class::kinds_of;
 ghost use mathlib.Core.Path.{_≡_};
-ghost use mathlib.Core.Bool.{not};
+ghost use mathlib.Core.Bool.{not, false};
 ghost use Rattle.text.specs.Basic.{isNil, present};
 ghost use Rattle.tree.specs.Answer.{found};
 ghost use Rattle.tree.specs.Class.{allOf};
 ghost use Rattle.tree.specs.Index.{partsFrom, Region};
+ghost use Rattle.children.specs.Lead.{SurveyedAfter};
 ghost use Rattle.children.specs.Spans.{Lies, gapAt, Surveying, Surveyed, SurveyedFrom};
 
 // What a reading comes to: how many children, whether one triggers many lines, whether a blank line is asked for behind
@@ -94,4 +98,55 @@ pub fn survey(index: &[u32], text: &[u8], w: Kinds, loose: bool, from: u32, b: u
 {
     let s = gap(index, text, w, loose, false, from, b);
     survey_from(index, text, w, loose, s, 0, false, b)
+}
+
+// A reading with no child.
+fn alone(s: Span, blank: bool) -> Outline
+    ensures { λ r. ⌜ r ≡ record { children = 0; many = false; blank = blank; last = s } ⌝ }
+{
+    Outline {
+        children: 0,
+        many: false,
+        blank,
+        last: s,
+    }
+}
+
+// A gap before a child that something bars: the child is the foreign element.
+fn barred(s: Span) -> Span
+    ensures { λ r. ⌜ r ≡ record { from = s .from; cut = s .cut; to = s .to; had = s .had; end = 2 } ⌝ }
+{
+    Span {
+        from: s.from,
+        cut: s.cut,
+        to: s.to,
+        had: s.had,
+        end: AT_FOREIGN,
+    }
+}
+
+// The whole of a reading from `from` up to b whose trailing list is what waits in the gap t.
+pub fn survey_after(
+    index: &[u32],
+    text: &[u8],
+    w: Kinds,
+    loose: bool,
+    t: Span,
+    from: u32,
+    b: u32,
+) -> Outline
+    requires { ⌜ Region (now index) (now text) from b ⌝ }
+    requires { ⌜ Lies (now index) (now text) t ⌝ }
+    ensures { λ r. ⌜ SurveyedAfter (now (index .entry)) (now (text .entry)) w loose t from b r ⌝ }
+{
+    let s = lead(index, text, w, loose, from, b);
+    if s.end != AT_CHILD {
+        return alone(s, waiting_newlines(index, text, s) >= 2);
+    }
+    if !nothing_waits(index, text, s) {
+        return alone(barred(s), false);
+    }
+    let many = waiting_newlines(index, text, t) >= 1;
+    let next = gap(index, text, w, loose, true, end_at(index, s.to), b);
+    survey_from(index, text, w, loose, next, 1, many, b)
 }
