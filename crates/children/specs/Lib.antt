@@ -9,3 +9,4 @@ pub mod Lead
 pub mod Uses
 pub mod Comments
 pub mod Between
+pub mod Examples
