@@ -37,6 +37,10 @@ or-right : (a : Bool) {b : Bool} → b ≡ true → (a || b) ≡ true
 or-right true e = refl
 or-right false e = e
 
+-- there is none
+none-some : {A : Type 0} (j : ℕ) → _≡_ {A = Option ℕ} none (some j) → A
+none-some j e = let z : _≡_ {A = ℕ} 0 1 = cc in absurd (omega arith)
+
 module _ (w : Kinds) (j : ℕ) where
   -- the first has the number, or another
   pub has-here : (x : Part) (xs : List Part) → some (x .number) ≡ some j → has j (x ∷ xs) ≡ true
@@ -47,12 +51,9 @@ module _ (w : Kinds) (j : ℕ) where
   unfolding has any
   has-later x xs e = or-right (eqb (x .number) j) e
 
-  none-some : {A : Type 0} → _≡_ {A = Option ℕ} none (some j) → A
-  none-some e = let z : _≡_ {A = ℕ} 0 1 = cc in absurd (omega arith)
-
   pub nth-has : (n : ℕ) (xs : List Part) → numberOf (nthOf w n xs) ≡ some j → has j xs ≡ true
   unfolding nthOf
-  nth-has n [] e = none-some e
+  nth-has n [] e = none-some j e
   nth-has zero (x ∷ xs) e = go (oneOf w (x .kind)) e (nth-has zero xs)
     where
       go : (t : Bool) → numberOf (cond t (some x) (nthOf w zero xs)) ≡ some j → (numberOf (nthOf w zero xs) ≡ some j → has j xs ≡ true) → has j (x ∷ xs) ≡ true
@@ -66,13 +67,13 @@ module _ (w : Kinds) (j : ℕ) where
 
   pub last-has : (xs : List Part) → numberOf (lastOf w xs) ≡ some j → has j xs ≡ true
   unfolding lastOf
-  last-has [] e = none-some e
+  last-has [] e = none-some j e
   last-has (x ∷ xs) e = go (lastOf w xs) (oneOf w (x .kind)) e (last-has xs)
     where
       go : (o : Option Part) (t : Bool) → numberOf (orElse o (cond t (some x) none)) ≡ some j → (numberOf o ≡ some j → has j xs ≡ true) → has j (x ∷ xs) ≡ true
       go (some y) t e f = has-later x xs (f e)
       go none true e f = has-here x xs e
-      go none false e f = none-some e
+      go none false e f = none-some j e
 
 module _ (j : ℕ) {index text : List ℕ} {n b : ℕ} (t : Table index text n) (k : b ≤ n) where
   no-part : {A : Type 0} (a : ℕ) → b ≤ a → has j (partsFrom index text a b) ≡ true → A
@@ -166,6 +167,10 @@ pub record Ends (index text : List ℕ) (a b : ℕ) (s e : Option ℕ) : Type 0 
   pub region : Region index text a b
   pub starts : (j : ℕ) → s ≡ some j → has j (partsFrom index text a b) ≡ true
   pub ends : (j : ℕ) → e ≡ some j → has j (partsFrom index text a b) ≡ true
+
+-- a start, and no end
+pub no-end : {index text : List ℕ} {a b : ℕ} {s : Option ℕ} → Region index text a b → ((j : ℕ) → s ≡ some j → has j (partsFrom index text a b) ≡ true) → Ends index text a b s none
+no-end r h = record { region = r; starts = h; ends = λ j e. none-some j e }
 
 -- r is where a reading between a start and an end begins and ends, and whether it is loose.
 pub record Bounded (index text : List ℕ) (a b : ℕ) (s e : Option ℕ) (r : Bounds) : Type 0 where

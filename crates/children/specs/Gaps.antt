@@ -141,10 +141,6 @@ hadBy t h = leb t 2 || h
 unfoldable pub followsBy : ℕ → Bool → Bool
 followsBy t s = leb t 1 || ((not (eqb t 2) && not (eqb t 5)) && not s)
 
--- 1 for a line feed, 0 for another byte
-unfoldable pub fed : ℕ → ℕ
-fed x = cond (eqb x 10) 1 0
-
 -- the line feeds of whitespace, 0 of another element
 unfoldable pub spaceIn : Part → ℕ
 spaceIn x = cond (eqb (x .kind) 64) (count 10 (x .text)) 0

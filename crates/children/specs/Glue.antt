@@ -32,14 +32,6 @@ glued p (Gaps.child g x gs) = glued (childFrom (p .waiting ++ g .waiting) x (beh
 abbrev pub passing : List Child → Option Child → List Part → Bool → Bool → Pass
 passing ds c ws s h = record { done = ds; current = c; waiting = ws; startedNext = s; hadSome = h; trailing = none }
 
-add-none : (c : Option Child) → addAll [] c ≡ c
-add-none none = refl
-add-none (some c) = rw append-nil
-
-add-both : (xs ys : List Part) (c : Option Child) → addAll (xs ++ ys) c ≡ addAll ys (addAll xs c)
-add-both xs ys none = refl
-add-both xs ys (some c) = rw append-assoc
-
 glued-widen : (ds : List Child) (c : Option Child) (ws : List Part) (s h s′ h′ : Bool) (xs ys : List Part) (gs : Gaps)
     → glued (passing ds c ws s h) (widen xs ys gs) ≡ glued (passing ds (addAll xs c) (ws ++ ys) s′ h′) gs
 unfolding glued widen

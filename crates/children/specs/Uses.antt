@@ -4,7 +4,6 @@ use mathlib.Core.Bool.{Bool, true, false, not}
 use mathlib.Core.Option.{none, some}
 use mathlib.Core.List.{List}
 use Prim.Native.Nat.{ℕ}
-use native.Mathlib.Omega.{arith}
 use borrow.Author.Tests.{eq-eqb, ne-eqb}
 use Rattle.tree.specs.declared.class.Kinds.{Kinds}
 use Rattle.tree.specs.Class.{kinds}
@@ -13,8 +12,9 @@ use Rattle.children.specs.declared.survey.Outline.{Outline}
 use Rattle.children.specs.Reading.{pass, start}
 use Rattle.children.specs.Gaps.{Gaps, stopped, ending, gaps}
 use Rattle.tree.specs.Index.{Region, partsFrom, partAt, endAt}
+use Rattle.tree.specs.Parts.{region-next}
 use Rattle.children.specs.Spans.{Spans, spanned, gapAt, Surveyed, surveyed}
-use Rattle.children.specs.Lead.{SurveyedAfter, whole-after}
+use Rattle.children.specs.Lead.{Leads, leads, led, leadAt, SurveyedAfter, whole-after}
 use Rattle.children.specs.Whole.{whole, whole-sums, sumsOf}
 use Rattle.tree.specs.declared.class.Class.{Class}
 use Rattle.tree.specs.declared.class.Class.the-variants as Class
@@ -37,7 +37,24 @@ module _ {index text : List ℕ} {w : Kinds} {loose after : Bool} {from b : ℕ}
 
   -- where the next gap begins
   pub span-next : (next : ℕ) → r .end ≡ 0 → next ≡ endAt index (r .to) → Region index text next b
-  span-next next e q = rw q (record { n = h .onward .n; table = h .onward .table; begins = h .onward .table .inside (r .to) (omega (arith, h .inside e, h .onward .ends)); ends = h .onward .ends })
+  span-next next e q = rw q (region-next (h .onward) (h .inside e))
+
+-- the same at the first gap of a reading with a trailing list
+module _ {index text : List ℕ} {w : Kinds} {loose : Bool} {from b : ℕ} {r : Span} (h : Leads index text w loose from b r) where
+  pub lead-child : r .end ≡ 0 → leads w loose (partsFrom index text from b) ≡ Gaps.child (leadAt index text r) (partAt index text (r .to)) (gaps w loose false true (partsFrom index text (endAt index (r .to)) b))
+  unfolding led
+  lead-child e = h .read ∙ rw (eq-eqb (r .end) 0 e)
+
+  pub lead-ending : r .end ≡ 1 → leads w loose (partsFrom index text from b) ≡ ending (leadAt index text r)
+  unfolding led
+  lead-ending e = h .read ∙ rw e
+
+  pub lead-foreign : (r .end ≡ 0 → ⊥) → (r .end ≡ 1 → ⊥) → leads w loose (partsFrom index text from b) ≡ stopped (r .to)
+  unfolding led
+  lead-foreign e f = h .read ∙ rw (ne-eqb (r .end) 0 e, ne-eqb (r .end) 1 f)
+
+  pub lead-next : (next : ℕ) → r .end ≡ 0 → next ≡ endAt index (r .to) → Region index text next b
+  lead-next next e q = rw q (region-next (h .onward) (h .inside e))
 
 -- A survey is the survey of the reading.
 pub survey-reading : (wanted : Class) {index text : List ℕ} {loose : Bool} {from b : ℕ} {r : Outline} → Surveyed index text (kinds wanted) loose from b r
