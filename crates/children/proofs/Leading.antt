@@ -1,0 +1,111 @@
+-- The loop of `lead`: the first gap of a reading with a trailing list so far.
+use mathlib.Core.Path.{_≡_, refl, ap, _∙_, sym}
+use mathlib.Core.Bool.{Bool, true, false, cond}
+use mathlib.Core.List.{List, [], _∷_, append-nil}
+use Prim.Native.Nat.{ℕ, _-_, _<_, _≤_}
+use native.Mathlib.Omega.{arith}
+use Rattle.tree.specs.declared.class.Kinds.{Kinds}
+use Rattle.tree.specs.Class.{is}
+use Rattle.tree.specs.Tree.{Part}
+use Rattle.children.specs.Gaps.{Go, Turn, turn, code, widen, gaps}
+use Rattle.tree.specs.Index.{Table, Region, partsFrom, partAt, endAt}
+use Rattle.children.specs.Stretch.{Jumps, here, waitingIn, jumps-next}
+use Rattle.children.specs.Spans.{Lies}
+use Rattle.children.specs.Lead.{leads, ledBy, addsError, led, Leads}
+use Rattle.tree.specs.Parts.{parts-next, parts-over}
+use Rattle.children.proofs.Spanning.{widen-none, widen-both, go-le, said, Says, Saying, waiting-none, waiting-follow}
+use Rattle.tree.specs.declared.class.Class.the-variants as Class
+use Rattle.children.specs.Gaps as G
+
+-- The first gap so far.
+pub record Leading (index text : List ℕ) (w : Kinds) (loose : Bool) (from b j : ℕ) : Type 0 where
+  pub region : Region index text j b
+  pub done : Jumps index (region .n) from j
+  pub rest : leads w loose (partsFrom index text from b) ≡ widen [] (waitingIn index text from j j) (leads w loose (partsFrom index text j b))
+
+pub leading-none : (index text : List ℕ) (w : Kinds) (l : Bool) (from b : ℕ) → Region index text from b → Leading index text w l from b from
+leading-none index text w l from b r = record { region = r; done = here; rest = rw (waiting-none, widen-none) }
+
+leads-next : {index text : List ℕ} {n : ℕ} (t : Table index text n) (w : Kinds) (l : Bool) (j b : ℕ) → b ≤ n → j < b
+    → leads w l (partsFrom index text j b) ≡ ledBy (turn w l true false (partAt index text j)) (partAt index text j) (leads w l (partsFrom index text (endAt index j) b)) (gaps w l false true (partsFrom index text (endAt index j) b))
+unfolding leads
+leads-next t w l j b k g = rw (parts-next t j b k g)
+
+adds-error : (g : Go) (s : Bool) (x : Part) → Says g s x → cond (is Class.CustomError x) (x ∷ []) [] ≡ addsError g x
+adds-error G.inline s x y = rw (y .error)
+adds-error G.last s x y = rw (y .error)
+adds-error G.wait s x y = rw (y .error)
+adds-error G.error s x y = rw (y .error)
+adds-error G.skip s x y = rw (y .error)
+adds-error G.over s x y = rw (y .error)
+
+module _ {index text : List ℕ} {w : Kinds} {l : Bool} {from b j : ℕ} (K : Leading index text w l from b j) where
+  abbrev tab : Table index text (K .region .n)
+  tab = K .region .table
+
+  laid : {e : Bool} {d : ℕ} → Lies index text (record { from = from; cut = j; to = j; had = e; end = d })
+  laid = record { first = record { n = K .region .n; table = tab; upto = K .region .begins; jumps = K .done }; second = record { n = K .region .n; table = tab; upto = K .region .begins; jumps = here } }
+
+  module _ (lt : j < b) where
+    abbrev x : Part
+    x = partAt index text j
+
+    in-n : j < K .region .n
+    in-n = omega (arith, K .region .ends)
+
+    step : (g : Go) → turn w l true false x ≡ G.on g → Says g true x → Leading index text w l from b (endAt index j)
+    step g q y = record {
+      region = record { n = K .region .n; table = tab; begins = tab .inside j in-n; ends = K .region .ends };
+      done = jumps-next tab (K .done) in-n;
+      rest = rw (waiting-follow tab from j in-n (K .done), adds-error g true x y)
+          (K .rest ∙ ap (widen [] (waitingIn index text from j j)) (rw q at (leads-next tab w l j b (K .region .ends) lt)) ∙ widen-both [] (waitingIn index text from j j) [] (addsError g x) _);
+    }
+
+    pub leading-more : (c next : ℕ) → c ≡ code (turn w l true false x) → c < 6 → next ≡ endAt index j → Leading index text w l from b next
+    leading-more c next e k z = rw z (go (turn w l true false x) refl (said w l true false x) e)
+      where
+        go : (T : Turn) → turn w l true false x ≡ T → Saying T true x → c ≡ code T → Leading index text w l from b (endAt index j)
+        go (G.on g) q y e = step g q y
+        go G.child q y e = absurd (omega arith)
+        go G.out q y e = absurd (omega arith)
+        go G.foreign q y e = absurd (omega arith)
+
+    abbrev Ended : ℕ → Type 0
+    Ended c = led index text w l b (record { from = from; cut = j; to = j; had = false; end = c - 6 }) ≡ widen [] (waitingIn index text from j j) (leads w l (partsFrom index text j b))
+
+    ended : (c : ℕ) → c ≡ code (turn w l true false x) → 6 ≤ c → Ended c
+    unfolding led widen
+    ended c e k = go (turn w l true false x) refl e
+      where
+        go : (T : Turn) → turn w l true false x ≡ T → c ≡ code T → Ended c
+        go (G.on g) q e = absurd (omega (arith, go-le g))
+        go G.child q e = rw (leads-next tab w l j b (K .region .ends) lt, q, e, append-nil (waitingIn index text from j j))
+        go G.out q e = rw (leads-next tab w l j b (K .region .ends) lt, q, e, append-nil (waitingIn index text from j j))
+        go G.foreign q e = rw (leads-next tab w l j b (K .region .ends) lt, q, e)
+
+    pub leading-stop : (c d : ℕ) → c ≡ code (turn w l true false x) → 6 ≤ c → d ≡ c - 6 → Leads index text w l from b (record { from = from; cut = j; to = j; had = false; end = d })
+    leading-stop c d e k z = rw z (record {
+      begins = refl;
+      cuts = refl;
+      lies = laid;
+      onward = K .region;
+      inside = λ q. lt;
+      read = K .rest ∙ sym (ended c e k);
+    })
+
+    pub leading-less : (next : ℕ) → next ≡ endAt index j → b - next < b - j
+    leading-less next e = omega (arith, tab .past j in-n)
+
+  over : b ≤ j → led index text w l b (record { from = from; cut = j; to = j; had = false; end = 1 }) ≡ widen [] (waitingIn index text from j j) (leads w l (partsFrom index text j b))
+  unfolding led widen leads
+  over k = rw (parts-over index text j b k, append-nil (waitingIn index text from j j))
+
+  pub leading-all : b ≤ j → Leads index text w l from b (record { from = from; cut = j; to = j; had = false; end = 1 })
+  leading-all k = record {
+    begins = refl;
+    cuts = refl;
+    lies = laid;
+    onward = K .region;
+    inside = λ q. absurd (omega arith);
+    read = K .rest ∙ sym (over k);
+  }

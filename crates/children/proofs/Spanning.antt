@@ -1,0 +1,278 @@
+-- The loop of `gap`: the gap so far.
+use mathlib.Core.Path.{_≡_, refl, ap, _∙_, sym}
+use mathlib.Core.Bool.{Bool, true, false, cond, not, _&&_, false≢true}
+use mathlib.Core.List.{List, [], _∷_, _++_, append-nil, append-assoc}
+use Prim.Native.Nat.{ℕ, _-_, _<_, _≤_}
+use native.Mathlib.Omega.{arith}
+use lib.Dec.{eqb, leb}
+use borrow.Author.Tests.{lt-leb, leb-true}
+use Rattle.tree.specs.declared.class.Kinds.{Kinds}
+use Rattle.tree.specs.Class.{is, oneOf, kinds, allOf}
+use Rattle.text.specs.Basic.{and-true}
+use Rattle.tree.specs.Tree.{Part}
+use Rattle.children.specs.Reading.{isNote}
+use Rattle.children.specs.Gaps.{Go, Turn, Gaps, turn, code, goCode, triviaTurn, otherTurn, breaks, widen, gaps, turned, startedBy, hadBy, followsBy, startedAfter, hadAfter, addsInline, addsWaiting, ending, stopped}
+use Rattle.tree.specs.Index.{Table, Region, partsFrom, partAt, endAt}
+use Rattle.children.specs.Stretch.{Jumps, here, notes, note-kinds, inlineIn, waitingIn, jumps-le, jumps-next}
+use Rattle.children.specs.Spans.{Spans, Lies, spanned}
+use Rattle.tree.specs.Parts.{parts-next, parts-over}
+use Rattle.children.proofs.Walks.{parts-more, all-more}
+use Rattle.tree.specs.declared.class.Class.the-variants as Class
+use Rattle.children.specs.Gaps as G
+
+-- ---- gaps with more in front
+
+pub widen-none : (gs : Gaps) → widen [] [] gs ≡ gs
+unfolding widen
+widen-none (stopped n) = refl
+widen-none (ending g) = refl
+widen-none (Gaps.child g x gs) = refl
+
+pub widen-both : (xs ys us vs : List Part) (gs : Gaps) → widen xs ys (widen us vs gs) ≡ widen (xs ++ us) (ys ++ vs) gs
+unfolding widen
+widen-both xs ys us vs (stopped n) = refl
+widen-both xs ys us vs (ending g) = rw (append-assoc xs us (g .inline), append-assoc ys vs (g .waiting))
+widen-both xs ys us vs (Gaps.child g x gs) = rw (append-assoc xs us (g .inline), append-assoc ys vs (g .waiting))
+
+pub go-le : (g : Go) → goCode g ≤ 5
+go-le G.inline = omega arith
+go-le G.last = omega arith
+go-le G.wait = omega arith
+go-le G.error = omega arith
+go-le G.skip = omega arith
+go-le G.over = omega arith
+
+-- ---- what a turn says of the element
+
+abbrev pub isTrivia : Go → Bool
+isTrivia G.inline = true
+isTrivia G.last = true
+isTrivia G.wait = true
+isTrivia G.error = false
+isTrivia G.skip = false
+isTrivia G.over = false
+
+abbrev pub isError : Go → Bool
+isError G.inline = false
+isError G.last = false
+isError G.wait = false
+isError G.error = true
+isError G.skip = false
+isError G.over = false
+
+pub record Says (g : Go) (s : Bool) (x : Part) : Type 0 where
+  pub trivia : is Class.Trivia x ≡ isTrivia g
+  pub error : is Class.CustomError x ≡ isError g
+  pub fresh : goCode g ≤ 1 → s ≡ false
+
+abbrev pub Saying : Turn → Bool → Part → Type 0
+Saying (G.on g) s x = Says g s x
+Saying G.child s x = Unit {0}
+Saying G.out s x = Unit {0}
+Saying G.foreign s x = Unit {0}
+
+pub not-error : (x : Part) → is Class.Trivia x ≡ true → is Class.CustomError x ≡ false
+unfolding oneOf kinds
+not-error x e =
+    let (p, q) = and-true (leb 64 (x .kind) && leb (x .kind) 69) (not (eqb (x .kind) 0)) e in
+    let (u, v) = and-true (leb 64 (x .kind)) (leb (x .kind) 69) p in
+    rw (lt-leb 70 (x .kind) (omega (arith, leb-true (x .kind) 69 v)))
+
+said-trivia : (s : Bool) (x : Part) → is Class.Trivia x ≡ true → Saying (triviaTurn s x) s x
+unfolding triviaTurn
+said-trivia true x e = record { trivia = e; error = not-error x e; fresh = λ h. absurd (omega arith) }
+said-trivia false x e = go (breaks x) (is Class.SingleLine x)
+  where
+    go : (b l : Bool) → Saying (cond b (G.on G.wait) (cond l (G.on G.last) (G.on G.inline))) false x
+    go true l = record { trivia = e; error = not-error x e; fresh = λ h. absurd (omega arith) }
+    go false true = record { trivia = e; error = not-error x e; fresh = λ h. refl }
+    go false false = record { trivia = e; error = not-error x e; fresh = λ h. refl }
+
+said-other : (l h s : Bool) (x : Part) → is Class.Trivia x ≡ false → is Class.CustomError x ≡ false → Saying (otherTurn l h (x .kind)) s x
+unfolding otherTurn
+said-other true true s x e f = tt
+said-other true false s x e f = record { trivia = e; error = f; fresh = λ h. absurd (omega arith) }
+said-other false h s x e f = go (is Class.Separator x)
+  where
+    go : (b : Bool) → Saying (cond b (G.on G.skip) G.foreign) s x
+    go true = record { trivia = e; error = f; fresh = λ h. absurd (omega arith) }
+    go false = tt
+
+pub said : (w : Kinds) (l s h : Bool) (x : Part) → Saying (turn w l s h x) s x
+unfolding turn
+said w l s h x = go (oneOf w (x .kind)) (is Class.Trivia x) refl (is Class.CustomError x) refl
+  where
+    go : (a b : Bool) → is Class.Trivia x ≡ b → (d : Bool) → is Class.CustomError x ≡ d → Saying (cond a G.child (cond b (triviaTurn s x) (cond d (G.on G.error) (otherTurn l h (x .kind))))) s x
+    go true b e d f = tt
+    go false true e d f = said-trivia s x e
+    go false false e true f = record { trivia = e; error = f; fresh = λ h. absurd (omega arith) }
+    go false false e false f = said-other l h s x e f
+
+-- ---- one element more in a gap
+
+module _ {index text : List ℕ} {n : ℕ} (t : Table index text n) (from j : ℕ) (k : j < n) where
+  inline-more : Jumps index n from j → inlineIn index text from (endAt index j) ≡ inlineIn index text from j ++ cond (is Class.Trivia (partAt index text j)) (partAt index text j ∷ []) []
+  unfolding inlineIn
+  inline-more p = rw (parts-more t p k, all-more (kinds Class.Trivia) (partsFrom index text from j) (partAt index text j))
+
+  pub waiting-follow : Jumps index n from j → waitingIn index text from (endAt index j) (endAt index j) ≡ waitingIn index text from j j ++ cond (is Class.CustomError (partAt index text j)) (partAt index text j ∷ []) []
+  unfolding waitingIn allOf
+  waiting-follow p =
+      rw (
+        parts-over index text (endAt index j) (endAt index j) (omega arith),
+        parts-over index text j j (omega arith),
+        parts-more t p k,
+        all-more (kinds Class.CustomError) (partsFrom index text from j) (partAt index text j),
+        append-nil,
+        append-nil,
+      )
+
+  waiting-more : (cut : ℕ) → Jumps index n cut j → waitingIn index text from cut (endAt index j) ≡ waitingIn index text from cut j ++ cond (isNote (partAt index text j)) (partAt index text j ∷ []) []
+  unfolding waitingIn
+  waiting-more cut p = rw (parts-more t p k, all-more notes (partsFrom index text cut j) (partAt index text j), note-kinds (partAt index text j), append-assoc)
+
+gaps-next : {index text : List ℕ} {n : ℕ} (t : Table index text n) (w : Kinds) (l s h : Bool) (j b : ℕ) → b ≤ n → j < b
+    → gaps w l s h (partsFrom index text j b) ≡ turned (turn w l s h (partAt index text j)) (partAt index text j) s h (λ s h. gaps w l s h (partsFrom index text (endAt index j) b))
+unfolding gaps
+gaps-next {index} {text} t w l s h j b k g = rw (parts-next t j b k g)
+
+-- ---- the loop of `gap`
+
+-- The gap so far: what is read from j on, with what was met in front, is what is read from `from` on.
+pub record Spanning (index text : List ℕ) (w : Kinds) (loose after : Bool) (from b cut j : ℕ) (started had : Bool) : Type 0 where
+  pub region : Region index text j b
+  pub first : Jumps index (region .n) from cut
+  pub second : Jumps index (region .n) cut j
+  pub follows : started ≡ false → cut ≡ j
+  pub rest : gaps w loose (not after) after (partsFrom index text from b) ≡ widen (inlineIn index text from cut) (waitingIn index text from cut j) (gaps w loose started had (partsFrom index text j b))
+
+inline-none : (index text : List ℕ) (a : ℕ) → inlineIn index text a a ≡ []
+unfolding inlineIn allOf
+inline-none index text a = rw (parts-over index text a a (omega arith))
+
+pub waiting-none : (index text : List ℕ) (a : ℕ) → waitingIn index text a a a ≡ []
+unfolding waitingIn allOf
+waiting-none index text a = rw (parts-over index text a a (omega arith))
+
+pub spanning-none : (index text : List ℕ) (w : Kinds) (l a : Bool) (from b : ℕ) → Region index text from b → Spanning index text w l a from b from from (not a) a
+spanning-none index text w l a from b r =
+    record { region = r; first = here; second = here; follows = λ q. refl; rest = rw (inline-none, waiting-none, widen-none) }
+
+laid : {index text : List ℕ} {w : Kinds} {l a : Bool} {from b cut j : ℕ} {s h e : Bool} {d : ℕ} → Spanning index text w l a from b cut j s h → Lies index text (record { from = from; cut = cut; to = j; had = e; end = d })
+laid K = record {
+  first = record { n = K .region .n; table = K .region .table; upto = omega (arith, K .region .begins, jumps-le (K .region .table) (K .second)); jumps = K .first };
+  second = record { n = K .region .n; table = K .region .table; upto = K .region .begins; jumps = K .second };
+}
+
+module _ {index text : List ℕ} {w : Kinds} {l a : Bool} {from b cut j : ℕ} {s h : Bool} (K : Spanning index text w l a from b cut j s h) (lt : j < b) where
+  abbrev tab : Table index text (K .region .n)
+  tab = K .region .table
+
+  abbrev x : Part
+  x = partAt index text j
+
+  in-n : j < K .region .n
+  in-n = omega (arith, K .region .ends)
+
+  step-rest : (g : Go) → turn w l s h x ≡ G.on g → gaps w l (not a) a (partsFrom index text from b)
+      ≡ widen (inlineIn index text from cut ++ addsInline g x) (waitingIn index text from cut j ++ addsWaiting g x) (gaps w l (startedAfter g s) (hadAfter g h) (partsFrom index text (endAt index j) b))
+  step-rest g q = K .rest ∙ ap (widen (inlineIn index text from cut) (waitingIn index text from cut j)) (rw q at (gaps-next tab w l s h j b (K .region .ends) lt)) ∙ widen-both _ _ _ _ _
+
+  abbrev next-region : Region index text (endAt index j) b
+  next-region = record { n = K .region .n; table = tab; begins = tab .inside j in-n; ends = K .region .ends }
+
+  -- the cut stays where it is
+  stays : (g : Go) → turn w l s h x ≡ G.on g → addsInline g x ≡ [] → cond (isNote x) (x ∷ []) [] ≡ addsWaiting g x → (startedAfter g s ≡ false → ⊥)
+      → Spanning index text w l a from b cut (endAt index j) (startedAfter g s) (hadAfter g h)
+  stays g q u v f = record {
+    region = next-region;
+    first = K .first;
+    second = jumps-next tab (K .second) in-n;
+    follows = λ e. absurd (f e);
+    rest = rw (waiting-more tab from j in-n cut (K .second), v) (rw (u, append-nil (inlineIn index text from cut)) at (step-rest g q));
+  }
+
+  -- the cut goes on with the element
+  goes : (g : Go) → turn w l s h x ≡ G.on g → s ≡ false → cond (is Class.Trivia x) (x ∷ []) [] ≡ addsInline g x → cond (is Class.CustomError x) (x ∷ []) [] ≡ addsWaiting g x
+      → Spanning index text w l a from b (endAt index j) (endAt index j) (startedAfter g s) (hadAfter g h)
+  goes g q z u v =
+      let e : cut ≡ j = K .follows z in
+      let p : Jumps index (K .region .n) from j = rw e at (K .first) in
+      record {
+        region = next-region;
+        first = jumps-next tab p in-n;
+        second = here;
+        follows = λ e. refl;
+        rest = rw (inline-more tab from j in-n p, waiting-follow tab from j in-n p, u, v) (rw e at (step-rest g q));
+      }
+
+  abbrev Stepped : ℕ → Type 0
+  Stepped c = Spanning index text w l a from b (cond (followsBy c s) (endAt index j) cut) (endAt index j) (startedBy c s) (hadBy c h)
+
+  step : (g : Go) → turn w l s h x ≡ G.on g → Says g s x → (v : Bool) → s ≡ v → Stepped (goCode g)
+  unfolding followsBy startedBy hadBy
+  step G.inline q y v e = goes G.inline q (y .fresh (omega arith)) (rw (y .trivia)) (rw (y .error))
+  step G.last q y v e = goes G.last q (y .fresh (omega arith)) (rw (y .trivia)) (rw (y .error))
+  step G.wait q y v e = stays G.wait q refl (rw (y .trivia)) (λ z. false≢true (sym z))
+  step G.error q y true e = rw e (rw e at (stays G.error q refl (rw (y .trivia, y .error)) (λ z. false≢true (sym z ∙ e))))
+  step G.error q y false e = rw e (rw e at (goes G.error q e (rw (y .trivia)) (rw (y .error))))
+  step G.skip q y true e = rw e (rw e at (stays G.skip q refl (rw (y .trivia, y .error)) (λ z. false≢true (sym z ∙ e))))
+  step G.skip q y false e = rw e (rw e at (goes G.skip q e (rw (y .trivia)) (rw (y .error))))
+  step G.over q y v e = stays G.over q refl (rw (y .trivia, y .error)) (λ z. false≢true (sym z))
+
+  stepped : (c : ℕ) → c ≡ code (turn w l s h x) → c < 6 → Stepped c
+  stepped c e k = go (turn w l s h x) refl (said w l s h x) e
+    where
+      go : (T : Turn) → turn w l s h x ≡ T → Saying T s x → c ≡ code T → Stepped c
+      go (G.on g) q y e = rw e (step g q y s refl)
+      go G.child q y e = absurd (omega arith)
+      go G.out q y e = absurd (omega arith)
+      go G.foreign q y e = absurd (omega arith)
+
+  pub spanning-more : (c next cut′ : ℕ) (f s′ h′ : Bool) → c ≡ code (turn w l s h x) → c < 6 → next ≡ endAt index j → f ≡ followsBy c s → cut′ ≡ cond f next cut → h′ ≡ hadBy c h → s′ ≡ startedBy c s
+      → Spanning index text w l a from b cut′ next s′ h′
+  spanning-more c next cut′ f s′ h′ e k n p q u v = rw (q, p, n, u, v) (stepped c e k)
+
+  abbrev Ended : ℕ → Type 0
+  Ended c = spanned index text w l b (record { from = from; cut = cut; to = j; had = h; end = c - 6 }) ≡ widen (inlineIn index text from cut) (waitingIn index text from cut j) (gaps w l s h (partsFrom index text j b))
+
+  ended : (c : ℕ) → c ≡ code (turn w l s h x) → 6 ≤ c → Ended c
+  unfolding spanned widen
+  ended c e k = go (turn w l s h x) refl (said w l s h x) e
+    where
+      go : (T : Turn) → turn w l s h x ≡ T → Saying T s x → c ≡ code T → Ended c
+      go (G.on g) q y e = absurd (omega (arith, go-le g))
+      go G.child q y e = rw (gaps-next tab w l s h j b (K .region .ends) lt, q, e, append-nil (inlineIn index text from cut), append-nil (waitingIn index text from cut j))
+      go G.out q y e = rw (gaps-next tab w l s h j b (K .region .ends) lt, q, e, append-nil (inlineIn index text from cut), append-nil (waitingIn index text from cut j))
+      go G.foreign q y e = rw (gaps-next tab w l s h j b (K .region .ends) lt, q, e)
+
+  pub spanning-stop : (c d : ℕ) → c ≡ code (turn w l s h x) → 6 ≤ c → d ≡ c - 6 → Spans index text w l a from b (record { from = from; cut = cut; to = j; had = h; end = d })
+  spanning-stop c d e k z = rw z (record {
+    begins = refl;
+    lies = laid K;
+    onward = K .region;
+    inside = λ q. lt;
+    read = K .rest ∙ sym (ended c e k);
+  })
+
+gaps-none : (w : Kinds) (l s h : Bool) (index text : List ℕ) (j b : ℕ) → b ≤ j → gaps w l s h (partsFrom index text j b) ≡ ending (G.gapOf [] [] h)
+unfolding gaps
+gaps-none w l s h index text j b k = rw (parts-over index text j b k)
+
+over : (index text : List ℕ) (w : Kinds) (l : Bool) (from b cut j : ℕ) (s h : Bool) → b ≤ j
+    → spanned index text w l b (record { from = from; cut = cut; to = j; had = h; end = 1 }) ≡ widen (inlineIn index text from cut) (waitingIn index text from cut j) (gaps w l s h (partsFrom index text j b))
+unfolding spanned widen
+over index text w l from b cut j s h k = rw (gaps-none w l s h index text j b k, append-nil (inlineIn index text from cut), append-nil (waitingIn index text from cut j))
+
+pub spanning-all : {index text : List ℕ} {w : Kinds} {l a : Bool} {from b cut j : ℕ} {s h : Bool} → Spanning index text w l a from b cut j s h → b ≤ j
+    → Spans index text w l a from b (record { from = from; cut = cut; to = j; had = h; end = 1 })
+spanning-all {index} {text} {w} {l} {a} {from} {b} {cut} {j} {s} {h} K k = record {
+  begins = refl;
+  lies = laid K;
+  onward = K .region;
+  inside = λ q. absurd (omega arith);
+  read = K .rest ∙ sym (over index text w l from b cut j s h k);
+}
+
+pub spanning-less : {index text : List ℕ} {w : Kinds} {l a : Bool} {from b cut j : ℕ} {s h : Bool} (next : ℕ) → Spanning index text w l a from b cut j s h → j < b → next ≡ endAt index j → b - next < b - j
+spanning-less {index} {text} {w} {l} {a} {from} {b} {cut} {j} next K k e = omega (arith, K .region .table .past j (omega (arith, K .region .ends)))

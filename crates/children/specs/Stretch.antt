@@ -1,0 +1,70 @@
+-- Stretches of siblings, and what lies in a gap by the kinds of its parts.
+use mathlib.Core.Path.{_≡_, refl}
+use mathlib.Core.Bool.{Bool, true, false, not, _&&_, _||_}
+use mathlib.Core.List.{List, _++_}
+use Prim.Native.Nat.{ℕ, _<_, _≤_}
+use native.Mathlib.Omega.{arith}
+use lib.Dec.{leb, eqb}
+use borrow.Author.Tests.{le-leb, lt-leb, leb-true, leb-false}
+use Rattle.tree.specs.Tree.{Part}
+use Rattle.tree.specs.declared.class.Class.the-variants as Class
+use Rattle.tree.specs.declared.class.Kinds.{Kinds}
+use Rattle.tree.specs.Class.{from, kinds, oneOf, allOf}
+use Rattle.tree.specs.Index.{endAt, partsFrom, Table}
+use Rattle.children.specs.Reading.{isNote}
+
+-- the kinds of trivia (64-69) and of custom errors (70-72)
+abbrev pub notes : Kinds
+notes = from 64 72
+
+-- they are what a reading notes
+pub note-kinds : (x : Part) → isNote x ≡ oneOf notes (x .kind)
+unfolding oneOf kinds
+note-kinds x = go (leb (x .kind) 69) refl (leb 64 (x .kind)) refl
+  where
+    or-false : (a : Bool) → (a || false) ≡ a
+    or-false true = refl
+    or-false false = refl
+
+    go : (u : Bool) → leb (x .kind) 69 ≡ u → (l : Bool) → leb 64 (x .kind) ≡ l
+        → (((l && u) && not (eqb (x .kind) 0)) || ((leb 70 (x .kind) && leb (x .kind) 72) && not (eqb (x .kind) 0))) ≡ ((l && leb (x .kind) 72) && not (eqb (x .kind) 0))
+    go true p true q = rw (lt-leb 70 (x .kind) (omega (arith, leb-true (x .kind) 69 p)), le-leb (x .kind) 72 (omega (arith, leb-true (x .kind) 69 p))) (or-false (not (eqb (x .kind) 0)))
+    go true p false q = rw (lt-leb 70 (x .kind) (omega (arith, leb-true (x .kind) 69 p)))
+    go false p true q = rw (le-leb 70 (x .kind) (omega (arith, leb-false (x .kind) 69 p)))
+    go false p false q = absurd (omega (arith, leb-false (x .kind) 69 p, leb-false 64 (x .kind) q))
+
+-- the inline trivia of a gap from a with its cut at c
+unfoldable pub inlineIn : List ℕ → List ℕ → ℕ → ℕ → List Part
+inlineIn index text a c = allOf (kinds Class.Trivia) (partsFrom index text a c)
+
+-- what waits in a gap from a to b with its cut at c: every custom error, and the trivia behind the cut
+unfoldable pub waitingIn : List ℕ → List ℕ → ℕ → ℕ → ℕ → List Part
+waitingIn index text a c b = allOf (kinds Class.CustomError) (partsFrom index text a c) ++ allOf notes (partsFrom index text c b)
+
+-- j is reached from a by jumps to the ends of elements
+pub data Jumps (index : List ℕ) (n : ℕ) : ℕ → ℕ → Type 0 where
+  here : {a : ℕ} → Jumps index n a a
+  jump : {a j : ℕ} → a < n → Jumps index n (endAt index a) j → Jumps index n a j
+
+module _ {index text : List ℕ} {n : ℕ} (t : Table index text n) where
+  pub jumps-le : {a j : ℕ} → Jumps index n a j → a ≤ j
+  jumps-le here = omega arith
+  jumps-le (jump {a} h k) = omega (arith, t .past a h, jumps-le k)
+
+  pub jumps-next : {a j : ℕ} → Jumps index n a j → j < n → Jumps index n a (endAt index j)
+  jumps-next here g = jump g here
+  jumps-next (jump h k) g = jump h (jumps-next k g)
+
+  -- of two that are reached, the further one is reached from behind the nearer
+  pub jumps-behind : {a j e : ℕ} → Jumps index n a j → Jumps index n a e → j < e → Jumps index n (endAt index j) e
+  jumps-behind here here h = absurd (omega arith)
+  jumps-behind here (jump g k) h = k
+  jumps-behind (jump {a} g k) here h = absurd (omega (arith, t .past a g, jumps-le k))
+  jumps-behind (jump g k) (jump g′ k′) h = jumps-behind k k′ h
+
+-- b is reached from a by jumps, in an index of a tree.
+pub record Stretch (index text : List ℕ) (a b : ℕ) : Type 0 where
+  pub n : ℕ
+  pub table : Table index text n
+  pub upto : b ≤ n
+  pub jumps : Jumps index n a b

@@ -1,0 +1,67 @@
+-- What callers of `gap` and `survey` cite.
+use mathlib.Core.Path.{_≡_, ap, _∙_, sym}
+use mathlib.Core.Bool.{Bool, true, false, not}
+use mathlib.Core.Option.{none, some}
+use mathlib.Core.List.{List}
+use Prim.Native.Nat.{ℕ}
+use borrow.Author.Tests.{eq-eqb, ne-eqb}
+use Rattle.tree.specs.declared.class.Kinds.{Kinds}
+use Rattle.tree.specs.Class.{kinds}
+use Rattle.children.specs.declared.gap.Span.{Span}
+use Rattle.children.specs.declared.survey.Outline.{Outline}
+use Rattle.children.specs.Reading.{pass, start}
+use Rattle.children.specs.Gaps.{Gaps, stopped, ending, gaps}
+use Rattle.tree.specs.Index.{Region, partsFrom, partAt, endAt}
+use Rattle.tree.specs.Parts.{region-next}
+use Rattle.children.specs.Spans.{Spans, spanned, gapAt, Surveyed, surveyed}
+use Rattle.children.specs.Lead.{Leads, leads, led, leadAt, SurveyedAfter, whole-after}
+use Rattle.children.specs.Whole.{whole, whole-sums, sumsOf}
+use Rattle.tree.specs.declared.class.Class.{Class}
+use Rattle.tree.specs.declared.class.Class.the-variants as Class
+
+module _ {index text : List ℕ} {w : Kinds} {loose after : Bool} {from b : ℕ} {r : Span} (h : Spans index text w loose after from b r) where
+  -- a gap, a child, and what is behind the child
+  pub span-child : r .end ≡ 0 → gaps w loose (not after) after (partsFrom index text from b) ≡ Gaps.child (gapAt index text r) (partAt index text (r .to)) (gaps w loose false true (partsFrom index text (endAt index (r .to)) b))
+  unfolding spanned
+  span-child e = h .read ∙ rw (eq-eqb (r .end) 0 e)
+
+  -- the last gap
+  pub span-ending : r .end ≡ 1 → gaps w loose (not after) after (partsFrom index text from b) ≡ ending (gapAt index text r)
+  unfolding spanned
+  span-ending e = h .read ∙ rw e
+
+  -- a foreign element
+  pub span-foreign : (r .end ≡ 0 → ⊥) → (r .end ≡ 1 → ⊥) → gaps w loose (not after) after (partsFrom index text from b) ≡ stopped (r .to)
+  unfolding spanned
+  span-foreign e f = h .read ∙ rw (ne-eqb (r .end) 0 e, ne-eqb (r .end) 1 f)
+
+  -- where the next gap begins
+  pub span-next : (next : ℕ) → r .end ≡ 0 → next ≡ endAt index (r .to) → Region index text next b
+  span-next next e q = rw q (region-next (h .onward) (h .inside e))
+
+-- the same at the first gap of a reading with a trailing list
+module _ {index text : List ℕ} {w : Kinds} {loose : Bool} {from b : ℕ} {r : Span} (h : Leads index text w loose from b r) where
+  pub lead-child : r .end ≡ 0 → leads w loose (partsFrom index text from b) ≡ Gaps.child (leadAt index text r) (partAt index text (r .to)) (gaps w loose false true (partsFrom index text (endAt index (r .to)) b))
+  unfolding led
+  lead-child e = h .read ∙ rw (eq-eqb (r .end) 0 e)
+
+  pub lead-ending : r .end ≡ 1 → leads w loose (partsFrom index text from b) ≡ ending (leadAt index text r)
+  unfolding led
+  lead-ending e = h .read ∙ rw e
+
+  pub lead-foreign : (r .end ≡ 0 → ⊥) → (r .end ≡ 1 → ⊥) → leads w loose (partsFrom index text from b) ≡ stopped (r .to)
+  unfolding led
+  lead-foreign e f = h .read ∙ rw (ne-eqb (r .end) 0 e, ne-eqb (r .end) 1 f)
+
+  pub lead-next : (next : ℕ) → r .end ≡ 0 → next ≡ endAt index (r .to) → Region index text next b
+  lead-next next e q = rw q (region-next (h .onward) (h .inside e))
+
+-- A survey is the survey of the reading.
+pub survey-reading : (wanted : Class) {index text : List ℕ} {loose : Bool} {from b : ℕ} {r : Outline} → Surveyed index text (kinds wanted) loose from b r
+    → sumsOf (pass wanted loose (partsFrom index text from b) (start none)) ≡ surveyed index text r
+survey-reading wanted h = ap sumsOf (whole wanted _ _) ∙ sym (whole-sums _) ∙ h .read
+
+-- And that of a reading with a trailing list.
+pub survey-after-reading : (wanted : Class) {index text : List ℕ} {loose : Bool} {t : Span} {from b : ℕ} {r : Outline} → SurveyedAfter index text (kinds wanted) loose t from b r
+    → sumsOf (pass wanted loose (partsFrom index text from b) (start (some (gapAt index text t .waiting)))) ≡ surveyed index text r
+survey-after-reading wanted h = ap sumsOf (whole-after wanted _ _ _) ∙ h .read

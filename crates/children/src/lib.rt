@@ -1,0 +1,8 @@
+// children.rs: which trivia belongs to which child. A reading is walked, and no list is stored.
+pub mod around;
+pub mod between;
+pub mod gap;
+pub mod newlines;
+pub mod print;
+pub mod survey;
+mod turn;

@@ -1,0 +1,143 @@
+// What one element does to a gap.
+use tree::access::kind_at;
+use tree::access::text_at;
+use tree::class::Class;
+use tree::class::Kinds;
+use tree::class::is;
+use tree::class::kinds_of;
+ghost use mathlib.Core.Path.{_≡_};
+ghost use Rattle.text.specs.Basic.{count};
+ghost use Rattle.tree.specs.Class.{ofKind};
+ghost use Rattle.tree.specs.Index.{textAt, partAt};
+ghost use Rattle.children.specs.Stretch.{notes};
+ghost use Rattle.children.specs.Gaps.{turn, triviaTurn, otherTurn, code, startedBy, hadBy, followsBy};
+
+// Inline trivia.
+pub const INLINE: u32 = 0;
+
+// A single-line comment that is inline: it ends the line.
+pub const LAST: u32 = 1;
+
+// Trivia that waits for the next child.
+pub const WAIT: u32 = 2;
+
+// A custom error.
+pub const ERROR: u32 = 3;
+
+// A separator that a strict reading skips.
+pub const SKIP: u32 = 4;
+
+// A foreign element that a loose reading passes over.
+pub const OVER: u32 = 5;
+
+// From here on the gap ends: a child, the end of a loose reading, a foreign element.
+pub const STOP: u32 = 6;
+
+const CHILD: u32 = 6;
+
+const OUT: u32 = 7;
+
+const FOREIGN: u32 = 8;
+
+// Whether k is of the class.
+pub fn of_class(c: Class, k: u32) -> bool
+    ensures { λ r. ⌜ r ≡ ofKind c k ⌝ }
+{
+    is(kinds_of(c), k)
+}
+
+// Trivia and custom errors.
+pub fn note_kinds() -> Kinds
+    ensures { λ r. ⌜ r ≡ notes ⌝ }
+{
+    Kinds {
+        lo: 64,
+        hi: 72,
+        but: 0,
+    }
+}
+
+// How many line feeds there are in the text of element i.
+pub fn line_feeds_of(index: &[u32], text: &[u8], i: u32) -> usize
+    ensures { λ r. ⌜ r ≡ count 10 (textAt (now (index .entry)) (now (text .entry)) i) ⌝ }
+{
+    text::line_feeds(text_at(index, text, i))
+}
+
+// Whether all is to wait from here on.
+pub fn started_by(t: u32, started: bool) -> bool
+    ensures { λ r. ⌜ r ≡ startedBy t started ⌝ }
+{
+    (t == LAST) | (t == WAIT) | (t == OVER) | started
+}
+
+// Whether a child or trivia came so far.
+pub fn had_by(t: u32, had: bool) -> bool
+    ensures { λ r. ⌜ r ≡ hadBy t had ⌝ }
+{
+    (t <= WAIT) | had
+}
+
+// Whether the cut goes on with the element.
+pub fn follows_by(t: u32, started: bool) -> bool
+    ensures { λ r. ⌜ r ≡ followsBy t started ⌝ }
+{
+    (t <= LAST) | ((t != WAIT) & (t != OVER) & !started)
+}
+
+// What the trivia j does to a gap.
+fn trivia_turn(index: &[u32], text: &[u8], started: bool, j: u32) -> u32
+    ensures { λ r. ⌜ r ≡ code (triviaTurn started (partAt (now (index .entry)) (now (text .entry)) j)) ⌝ }
+{
+    if started {
+        return WAIT;
+    }
+    if of_class(Class::SingleLine, kind_at(index, j)) {
+        return LAST;
+    }
+    if line_feeds_of(index, text, j) >= 1 {
+        return WAIT;
+    }
+    INLINE
+}
+
+// What an element of kind k does to a gap that is no child, trivia or custom error.
+fn other_turn(loose: bool, had: bool, k: u32) -> u32
+    ensures { λ r. ⌜ r ≡ code (otherTurn loose had k) ⌝ }
+{
+    if loose {
+        if had {
+            return OUT;
+        }
+        return OVER;
+    }
+    if of_class(Class::Separator, k) {
+        return SKIP;
+    }
+    FOREIGN
+}
+
+// What element j does to a gap.
+pub fn turn_of(
+    index: &[u32],
+    text: &[u8],
+    w: Kinds,
+    loose: bool,
+    started: bool,
+    had: bool,
+    j: u32,
+) -> u32
+    ensures { λ r. ⌜ r ≡ code (turn w loose started had (partAt (now (index .entry)) (now (text .entry)) j)) ⌝ }
+{
+    let k = kind_at(index, j);
+    if is(w, k) {
+        return CHILD;
+    }
+    if of_class(Class::Trivia, k) {
+        return trivia_turn(index, text, started, j);
+    }
+    if of_class(Class::CustomError, k) {
+        return ERROR;
+    }
+    other_turn(loose, had, k)
+}

@@ -1,0 +1,23 @@
+-- A walk from gap to gap.
+use mathlib.Core.Path.{_≡_}
+use mathlib.Core.Bool.{Bool, true}
+use mathlib.Core.List.{List}
+use Prim.Native.Nat.{ℕ, _-_, _<_}
+use native.Mathlib.Omega.{arith}
+use Rattle.tree.specs.declared.class.Kinds.{Kinds}
+use Rattle.tree.specs.Index.{Region, endAt}
+use Rattle.tree.specs.Parts.{region-next, region-past}
+use Rattle.children.specs.declared.gap.Span.{Span}
+use Rattle.children.specs.Stretch.{jumps-le}
+use Rattle.children.specs.Spans.{Spans, Surveying}
+
+-- a gap from which a walk may go on
+pub walk-from : {index text : List ℕ} {w : Kinds} {l a : Bool} {from b : ℕ} {s : Span} → Spans index text w l a from b s → Surveying index text b s 0
+walk-from h = record { lies = h .lies; onward = h .onward; inside = h .inside; few = omega arith }
+
+module _ {index text : List ℕ} {b : ℕ} {s : Span} (h : Surveying index text b s 0) (e : s .end ≡ 0) {next : ℕ} (q : next ≡ endAt index (s .to)) where
+  pub walk-region : Region index text next b
+  walk-region = rw q (region-next (h .onward) (h .inside e))
+
+  pub walk-less : {w : Kinds} {l : Bool} {t : Span} → Spans index text w l true next b t → b - t .to < b - s .to
+  walk-less k = omega (arith, h .inside e, region-past (h .onward) (h .inside e), q, k .begins, jumps-le (k .lies .first .table) (k .lies .first .jumps), jumps-le (k .lies .second .table) (k .lies .second .jumps))

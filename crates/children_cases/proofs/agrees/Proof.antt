@@ -1,0 +1,16 @@
+use borrow.Author.Tests.{not-false}
+use borrow.Author.Needs.{needs}
+use Rattle.children_cases.proofs.agrees.Statement.{statement}
+use Rattle.children_cases.proofs.agrees.Tie as tie
+
+pub agrees-spec : {M : Type 1} → statement M
+agrees-spec =
+    tie.close
+    (tie.spec
+    (λ c. search needs)  -- slice-aggregate-indexed
+    (λ c κs. search needs)  -- indexed-requires
+    (λ c. search needs)  -- returns
+    (λ c. search needs)  -- slice-aggregate-answers
+    (λ c κs. c .before .before .before .indexed .ensures (not-false _ (c .before .if1 .left)))  -- answers-requires
+    (λ c. search needs)  -- returns-2
+    )

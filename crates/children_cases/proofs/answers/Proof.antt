@@ -1,0 +1,31 @@
+use mathlib.Core.Path.{refl}
+use native.Mathlib.Omega.{arith}
+use Rattle.tree.specs.Index.{Region}
+use Rattle.tree.specs.Children.{region-of}
+use borrow.Author.Needs.{needs}
+use Rattle.children_cases.proofs.answers.Statement.{statement}
+use Rattle.children_cases.proofs.answers.Tie as tie
+
+-- the children of the first element
+region : (c : tie.After-texts-of) → Region (c .before .before .before .before .before .before .before .args .table .now) (c .texts-of .result .now) 1 (c .before .end-at .result)
+region c = region-of (c .before .before .before .before .before .before .before .pre) 0 (omega (arith, c .before .before .if1 .left, c .before .before .before .element-count .ensures)) (c .texts-of .ensures) refl (c .before .end-at .ensures)
+
+pub answers-spec : {M : Type 1} → statement M
+answers-spec =
+    tie.close
+    (tie.spec
+    (λ c κs. search needs)  -- element-count-requires
+    (λ c. search needs)  -- returns
+    (λ c. search needs)  -- add-a
+    (λ c κs. search needs)  -- end-at-requires
+    (λ c κs. search needs)  -- texts-of-requires
+    (λ c κs. region c)  -- plain-requires
+    (λ c κs. search needs)  -- same-requires
+    (λ c κs. region (c .before .before))  -- plain-requires-2
+    (λ c κs. search needs)  -- same-requires-2
+    (λ c κs. region (c .before .before .before .before))  -- trailing-requires
+    (λ c κs. search needs)  -- same-requires-3
+    (λ c κs. region (c .before .before .before .before .before .before))  -- trailing-requires-2
+    (λ c κs. search needs)  -- same-requires-4
+    (λ c. search needs)  -- returns-2
+    )

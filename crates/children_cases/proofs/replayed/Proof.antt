@@ -1,0 +1,30 @@
+use Prim.Native.Nat.{_-_, _≤_}
+use lib.ListN.{length}
+use borrow.Author.Needs.{needs}
+use Rattle.children_cases.proofs.replayed.Statement.{statement}
+use Rattle.children_cases.proofs.replayed.Tie as tie
+
+abbrev Inv-loop : tie.InvT-loop
+Inv-loop v seen₀ right₀ at₀ seen right at = at ≤ length v
+
+abbrev μ-loop : tie.MeasureT-loop
+μ-loop v seen₀ right₀ at₀ seen right at = length v - at
+
+pub replayed-spec : {M : Type 1} → statement M
+replayed-spec =
+    tie.close
+    (tie.spec
+    Inv-loop
+    μ-loop
+    (λ c. search needs)  -- loop-holds
+    (λ c κs. search needs)  -- field-end-requires
+    (λ c κs. search needs)  -- add-requires
+    (λ c κs. search needs)  -- field-requires
+    (λ c κs. search needs)  -- field-requires-2
+    (λ c κs. search needs)  -- agrees-requires
+    (λ c κs. search needs)  -- add-requires-2
+    (λ c κs. search needs)  -- field-end-requires-2
+    (λ c. search needs)  -- loop-less
+    (λ c. search needs)  -- loop-again
+    (λ c. search needs)  -- returns
+    )

@@ -1,0 +1,29 @@
+use Rattle.children.specs.Uses.{lead-next}
+use Rattle.children_cases.proofs.Walk.{walk-from}
+use borrow.Author.Needs.{needs}
+use Rattle.children_cases.proofs.trailing.Statement.{statement}
+use Rattle.children_cases.proofs.trailing.Tie as tie
+
+pub trailing-spec : {M : Type 1} → statement M
+trailing-spec =
+    tie.close
+    (tie.spec
+    (λ c κs. search needs)  -- kinds-of-requires
+    (λ c κs. search needs)  -- gap-requires
+    (λ c κs. search needs)  -- survey-after-requires
+    (λ c κs. search needs)  -- mix-outline-requires
+    (λ c κs. search needs)  -- is-foreign-requires
+    (λ c. search needs)  -- returns
+    (λ c κs. search needs)  -- lead-requires
+    (λ c. search needs)  -- returns-2
+    (λ c κs. search needs)  -- waiting-newlines-requires
+    (λ c κs. search needs)  -- mix-requires
+    (λ c κs. search needs)  -- bit-requires
+    (λ c κs. search needs)  -- mix-requires-2
+    (λ c κs. search needs)  -- mix-waiting-requires
+    (λ c κs. search needs)  -- end-at-requires
+    (λ c κs. lead-next (c .before .before .before .before .before .before .before .before .lead .ensures) _ (c .before .before .before .before .before .before .if2 .left) (c .end-at .ensures))  -- gap-requires-2
+    (λ c κs. search needs)  -- mix-inline-requires
+    (λ c κs. walk-from (c .before .gap2 .ensures))  -- mix-walk-requires
+    (λ c. search needs)  -- returns-3
+    )
