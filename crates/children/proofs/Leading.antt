@@ -7,13 +7,13 @@ use native.Mathlib.Omega.{arith}
 use Rattle.tree.specs.declared.class.Kinds.{Kinds}
 use Rattle.tree.specs.Class.{is}
 use Rattle.tree.specs.Tree.{Part}
-use Rattle.children.specs.Gaps.{Go, Turn, turn, code, widen, gaps}
+use Rattle.children.specs.Gaps.{Go, Turn, turn, code, widen, gaps, widen-none, widen-both}
 use Rattle.tree.specs.Index.{Table, Region, partsFrom, partAt, endAt}
 use Rattle.children.specs.Stretch.{Jumps, here, waitingIn, jumps-next}
 use Rattle.children.specs.Spans.{Lies}
 use Rattle.children.specs.Lead.{leads, ledBy, addsError, led, Leads}
 use Rattle.tree.specs.Parts.{parts-next, parts-over}
-use Rattle.children.proofs.Spanning.{widen-none, widen-both, go-le, said, Says, Saying, waiting-none, waiting-follow}
+use Rattle.children.proofs.Spanning.{go-le, said, Says, Saying, waiting-none, waiting-follow}
 use Rattle.tree.specs.declared.class.Class.the-variants as Class
 use Rattle.children.specs.Gaps as G
 

@@ -11,7 +11,7 @@ use Rattle.tree.specs.Class.{is, oneOf, kinds, allOf}
 use Rattle.text.specs.Basic.{and-true}
 use Rattle.tree.specs.Tree.{Part}
 use Rattle.children.specs.Reading.{isNote}
-use Rattle.children.specs.Gaps.{Go, Turn, Gaps, turn, code, goCode, triviaTurn, otherTurn, breaks, widen, gaps, turned, startedBy, hadBy, followsBy, startedAfter, hadAfter, addsInline, addsWaiting, ending, stopped}
+use Rattle.children.specs.Gaps.{Go, Turn, turn, code, goCode, triviaTurn, otherTurn, breaks, widen, gaps, turned, startedBy, hadBy, followsBy, startedAfter, hadAfter, addsInline, addsWaiting, ending, widen-none, widen-both}
 use Rattle.tree.specs.Index.{Table, Region, partsFrom, partAt, endAt}
 use Rattle.children.specs.Stretch.{Jumps, here, notes, note-kinds, inlineIn, waitingIn, jumps-le, jumps-next}
 use Rattle.children.specs.Spans.{Spans, Lies, spanned}
@@ -19,20 +19,6 @@ use Rattle.tree.specs.Parts.{parts-next, parts-over}
 use Rattle.children.proofs.Walks.{parts-more, all-more}
 use Rattle.tree.specs.declared.class.Class.the-variants as Class
 use Rattle.children.specs.Gaps as G
-
--- ---- gaps with more in front
-
-pub widen-none : (gs : Gaps) → widen [] [] gs ≡ gs
-unfolding widen
-widen-none (stopped n) = refl
-widen-none (ending g) = refl
-widen-none (Gaps.child g x gs) = refl
-
-pub widen-both : (xs ys us vs : List Part) (gs : Gaps) → widen xs ys (widen us vs gs) ≡ widen (xs ++ us) (ys ++ vs) gs
-unfolding widen
-widen-both xs ys us vs (stopped n) = refl
-widen-both xs ys us vs (ending g) = rw (append-assoc xs us (g .inline), append-assoc ys vs (g .waiting))
-widen-both xs ys us vs (Gaps.child g x gs) = rw (append-assoc xs us (g .inline), append-assoc ys vs (g .waiting))
 
 pub go-le : (g : Go) → goCode g ≤ 5
 go-le G.inline = omega arith

@@ -51,6 +51,7 @@ module _ (w : Kinds) (j : ℕ) where
   unfolding has any
   has-later x xs e = or-right (eqb (x .number) j) e
 
+  -- the n-th of these kinds
   pub nth-has : (n : ℕ) (xs : List Part) → numberOf (nthOf w n xs) ≡ some j → has j xs ≡ true
   unfolding nthOf
   nth-has n [] e = none-some j e
@@ -65,6 +66,7 @@ module _ (w : Kinds) (j : ℕ) where
       go true e f g = has-later x xs (f e)
       go false e f g = has-later x xs (g e)
 
+  -- the last of these kinds
   pub last-has : (xs : List Part) → numberOf (lastOf w xs) ≡ some j → has j xs ≡ true
   unfolding lastOf
   last-has [] e = none-some j e
@@ -131,15 +133,19 @@ module _ {index text : List ℕ} {n : ℕ} (t : Table index text n) where
       go (no p) g = rw (parts-over index text a b (omega arith))
 
 module _ {index text : List ℕ} {a b j : ℕ} {r : Region index text a b} (h : Among r j) where
+  -- it is an element of the index
   pub among-in : j < r .n
   among-in = omega (arith, h .before, r .ends)
 
+  -- those behind it
   pub among-behind : behind j (partsFrom index text a b) ≡ partsFrom index text (endAt index j) b
   among-behind = behind-jumps (r .table) (h .jumps) b (r .ends) (h .before)
 
+  -- those before it
   pub among-upto : upTo j (partsFrom index text a b) ≡ partsFrom index text a j
   among-upto = upto-jumps (r .table) (h .jumps) b (r .ends) (h .before)
 
+  -- where they may be walked
   abbrev pub region-behind : Region index text (endAt index j) b
   region-behind = record { n = r .n; table = r .table; begins = r .table .inside j among-in; ends = r .ends }
 

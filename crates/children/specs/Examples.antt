@@ -28,9 +28,11 @@ second (read (c ∷ d ∷ f ∷ cs) e) = []
 abbrev pub Holds : Example → Type 0
 Holds x = second (enclosed Class.Expr Class.LBrack Class.RBrack (x .parts)) ≡ x .asks
 
+-- an element with its number, kind and text
 abbrev part : ℕ → ℕ → String → Part
 part n k s = record { number = n; kind = k; text = ascii s }
 
+-- an example
 abbrev ex : String → List Part → List Bool → Example
 ex n ps bs = record { name = n; parts = ps; asks = bs }
 

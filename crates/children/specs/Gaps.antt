@@ -1,6 +1,7 @@
 -- A reading as what stands before, between and behind its children: one gap a child, and one at the end.
+use mathlib.Core.Path.{_≡_, refl}
 use mathlib.Core.Bool.{Bool, true, false, cond, not, _&&_, _||_}
-use mathlib.Core.List.{List, [], _∷_, _++_, reverse}
+use mathlib.Core.List.{List, [], _∷_, _++_, reverse, append-assoc}
 use Prim.Native.Nat.{ℕ, suc, _+_}
 use lib.Dec.{leb, eqb}
 use Rattle.text.specs.Basic.{count}
@@ -20,6 +21,7 @@ pub data Turn : Type 0 where
   on : Go → Turn
   child out foreign : Turn
 
+-- their numbers in the code
 abbrev pub goCode : Go → ℕ
 goCode inline = 0
 goCode last = 1
@@ -39,9 +41,11 @@ code foreign = 8
 abbrev pub breaks : Part → Bool
 breaks x = leb 1 (count 10 (x .text)) && not (is Class.SingleLine x)
 
+-- trivia: 'inline until a trivia holding a newline that is no single-line comment (that one waits too) or until just after a single-line comment'
 unfoldable pub triviaTurn : Bool → Part → Turn
 triviaTurn started x = cond (started || breaks x) (on wait) (cond (is Class.SingleLine x) (on last) (on inline))
 
+-- any other element: a loose reading 'ends if a child or trivia came before, else goes on'; 'A strict reading skips only `,` and `;`'
 unfoldable pub otherTurn : Bool → Bool → ℕ → Turn
 otherTurn loose had k = cond loose (cond had out (on over)) (cond (ofKind Class.Separator k) (on skip) foreign)
 
@@ -59,6 +63,7 @@ pub record Gap : Type 0 where
   pub waiting : List Part
   pub had : Bool
 
+-- a gap of these lists
 abbrev pub gapOf : List Part → List Part → Bool → Gap
 gapOf is ws had = record { inline = is; waiting = ws; had = had }
 
@@ -134,6 +139,7 @@ gaps wanted loose started had (x ∷ xs) = turned (turn wanted loose started had
 unfoldable pub startedBy : ℕ → Bool → Bool
 startedBy t s = ((eqb t 1 || eqb t 2) || eqb t 5) || s
 
+-- a child or trivia came, by the number
 unfoldable pub hadBy : ℕ → Bool → Bool
 hadBy t h = leb t 2 || h
 
@@ -164,3 +170,17 @@ unfoldable pub gapSums : ℕ → Bool → Gaps → Sums
 gapSums k m (stopped n) = foreignAt n
 gapSums k m (ending g) = sums k m (leb 2 (newlinesAt g)) (g .waiting)
 gapSums k m (child g x gs) = gapSums (suc k) (m || leb 1 (newlinesAt g)) gs
+
+-- nothing more in front
+pub widen-none : (gs : Gaps) → widen [] [] gs ≡ gs
+unfolding widen
+widen-none (stopped n) = refl
+widen-none (ending g) = refl
+widen-none (child g x gs) = refl
+
+-- more in front twice
+pub widen-both : (xs ys us vs : List Part) (gs : Gaps) → widen xs ys (widen us vs gs) ≡ widen (xs ++ us) (ys ++ vs) gs
+unfolding widen
+widen-both xs ys us vs (stopped n) = refl
+widen-both xs ys us vs (ending g) = rw (append-assoc xs us (g .inline), append-assoc ys vs (g .waiting))
+widen-both xs ys us vs (child g x gs) = rw (append-assoc xs us (g .inline), append-assoc ys vs (g .waiting))

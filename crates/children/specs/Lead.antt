@@ -1,8 +1,8 @@
 -- The first gap of a reading that is handed a trailing list: trivia is passed over, and an error bars the first child.
-use mathlib.Core.Path.{_≡_, refl, _∙_, sym}
+use mathlib.Core.Path.{_≡_, ap, refl, _∙_, sym}
 use mathlib.Core.Bool.{Bool, true, false, cond}
 use mathlib.Core.Option.{none, some}
-use mathlib.Core.List.{List, [], _∷_, _++_, append-nil, append-assoc}
+use mathlib.Core.List.{List, [], _∷_, _++_, append-nil}
 use Prim.Native.Nat.{ℕ, _<_}
 use lib.Dec.{leb, eqb}
 use Rattle.tree.specs.declared.class.Kinds.{Kinds}
@@ -12,7 +12,7 @@ use Rattle.children.specs.declared.survey.Outline.{Outline}
 use Rattle.text.specs.Basic.{isNil}
 use Rattle.tree.specs.Tree.{Part}
 use Rattle.children.specs.Reading.{Child, Reading, foreign, read, Pass, pass, step, start, newlines}
-use Rattle.children.specs.Gaps.{Go, Turn, Gap, gapOf, Gaps, stopped, ending, widen, gaps, turn, triviaTurn, otherTurn}
+use Rattle.children.specs.Gaps.{Go, Turn, Gap, gapOf, Gaps, stopped, ending, widen, gaps, turn, triviaTurn, otherTurn, widen-none, widen-both}
 use Rattle.children.specs.Glue.{pass-gaps}
 use Rattle.tree.specs.Index.{Region, partsFrom, partAt, endAt}
 use Rattle.children.specs.Stretch.{waitingIn}
@@ -32,6 +32,7 @@ addsError G.error x = x ∷ []
 addsError G.skip x = []
 addsError G.over x = []
 
+-- one element, the gaps from the next on, and those behind a child
 abbrev pub ledBy : Turn → Part → Gaps → Gaps → Gaps
 ledBy (G.on t) x on behind = widen [] (addsError t x) on
 ledBy G.child x on behind = Gaps.child (gapOf [] [] false) x behind
@@ -53,19 +54,18 @@ readingAfter ts (stopped n) = foreign n
 readingAfter ts (ending g) = read [] (endingAt g)
 readingAfter ts (Gaps.child g x gs) = cond (isNil (g .waiting)) (readFrom (childAfter ts x) gs) (foreign (x .number))
 
+-- a pass before the first child, with errors that wait
 abbrev waitingPass : List Part → List Part → Bool → Pass
 waitingPass ts ws s = record { done = []; current = none; waiting = ws; startedNext = s; hadSome = false; trailing = some ts }
 
 after-widen : (ts ws us : List Part) (gs : Gaps) → readingAfter ts (widen [] ws (widen [] us gs)) ≡ readingAfter ts (widen [] (ws ++ us) gs)
-unfolding widen
-after-widen ts ws us (stopped n) = refl
-after-widen ts ws us (ending g) = rw (append-assoc ws us (g .waiting))
-after-widen ts ws us (Gaps.child g x gs) = rw (append-assoc ws us (g .waiting))
+after-widen ts ws us gs = ap (readingAfter ts) (widen-both [] ws [] us gs)
 
 after-on : (ts ws : List Part) (gs : Gaps) → readingAfter ts (widen [] ws (widen [] [] gs)) ≡ readingAfter ts (widen [] ws gs)
 after-on ts ws gs = rw (append-nil ws) at (after-widen ts ws [] gs)
 
 module _ (wanted : Class) (loose : Bool) (ts : List Part) (x : Part) (xs : List Part) where
+  -- what is claimed of the elements behind x, and of x and those
   abbrev Behind : Type 0
   Behind = (ws : List Part) (s : Bool) → pass wanted loose xs (waitingPass ts ws s) ≡ readingAfter ts (widen [] ws (leads (kinds wanted) loose xs))
 
@@ -108,12 +108,6 @@ unfolding pass leads widen readingAfter
 after-all wanted loose ts [] ws s = rw (append-nil ws)
 after-all wanted loose ts (x ∷ xs) ws s = here wanted loose ts x xs (after-all wanted loose ts xs) ws s
 
-widen-none : (gs : Gaps) → widen [] [] gs ≡ gs
-unfolding widen
-widen-none (stopped n) = refl
-widen-none (ending g) = refl
-widen-none (Gaps.child g x gs) = refl
-
 -- A reading with a trailing list is the reading of its gaps.
 pub whole-after : (wanted : Class) (loose : Bool) (ts xs : List Part) → pass wanted loose xs (start (some ts)) ≡ readingAfter ts (leads (kinds wanted) loose xs)
 whole-after wanted loose ts xs = rw widen-none at (after-all wanted loose ts xs [] false)
@@ -124,6 +118,7 @@ whole-after wanted loose ts xs = rw widen-none at (after-all wanted loose ts xs 
 abbrev pub leadAt : List ℕ → List ℕ → Span → Gap
 leadAt index text r = gapOf [] (waitingIn index text (r .from) (r .cut) (r .to)) false
 
+-- the gaps from that span on: as `spanned`, with the errors alone
 unfoldable pub led : List ℕ → List ℕ → Kinds → Bool → ℕ → Span → Gaps
 led index text w loose b r =
     cond (eqb (r .end) 0) (Gaps.child (leadAt index text r) (partAt index text (r .to)) (gaps w loose false true (partsFrom index text (endAt index (r .to)) b)))

@@ -47,10 +47,12 @@ pub data Jumps (index : List ℕ) (n : ℕ) : ℕ → ℕ → Type 0 where
   jump : {a j : ℕ} → a < n → Jumps index n (endAt index a) j → Jumps index n a j
 
 module _ {index text : List ℕ} {n : ℕ} (t : Table index text n) where
+  -- jumps go on
   pub jumps-le : {a j : ℕ} → Jumps index n a j → a ≤ j
   jumps-le here = omega arith
   jumps-le (jump {a} h k) = omega (arith, t .past a h, jumps-le k)
 
+  -- one jump more
   pub jumps-next : {a j : ℕ} → Jumps index n a j → j < n → Jumps index n a (endAt index j)
   jumps-next here g = jump g here
   jumps-next (jump h k) g = jump h (jumps-next k g)

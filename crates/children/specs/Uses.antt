@@ -41,18 +41,22 @@ module _ {index text : List ℕ} {w : Kinds} {loose after : Bool} {from b : ℕ}
 
 -- the same at the first gap of a reading with a trailing list
 module _ {index text : List ℕ} {w : Kinds} {loose : Bool} {from b : ℕ} {r : Span} (h : Leads index text w loose from b r) where
+  -- a child, and what is behind it
   pub lead-child : r .end ≡ 0 → leads w loose (partsFrom index text from b) ≡ Gaps.child (leadAt index text r) (partAt index text (r .to)) (gaps w loose false true (partsFrom index text (endAt index (r .to)) b))
   unfolding led
   lead-child e = h .read ∙ rw (eq-eqb (r .end) 0 e)
 
+  -- the end
   pub lead-ending : r .end ≡ 1 → leads w loose (partsFrom index text from b) ≡ ending (leadAt index text r)
   unfolding led
   lead-ending e = h .read ∙ rw e
 
+  -- a foreign element
   pub lead-foreign : (r .end ≡ 0 → ⊥) → (r .end ≡ 1 → ⊥) → leads w loose (partsFrom index text from b) ≡ stopped (r .to)
   unfolding led
   lead-foreign e f = h .read ∙ rw (ne-eqb (r .end) 0 e, ne-eqb (r .end) 1 f)
 
+  -- where the next gap begins
   pub lead-next : (next : ℕ) → r .end ≡ 0 → next ≡ endAt index (r .to) → Region index text next b
   lead-next next e q = rw q (region-next (h .onward) (h .inside e))
 

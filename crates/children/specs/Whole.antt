@@ -54,6 +54,7 @@ sumsOf (read cs e) = sums (length cs) (anyManyLines cs) (e .blankLine) (e .trivi
 
 -- ---- no inline trivia before the first child
 
+-- the inline trivia of the first gap
 abbrev firstInline : Gaps → List Part
 firstInline (stopped n) = []
 firstInline (ending g) = g .inline
@@ -89,12 +90,14 @@ preceded-both : (cs ds : List Child) (r : Reading) → preceded (cs ++ ds) r ≡
 preceded-both cs ds (foreign n) = refl
 preceded-both cs ds (read es e) = rw (append-assoc cs ds es)
 
+-- from a child on
 pub glued-from : (gs : Gaps) (ds : List Child) (c : Child) (s h : Bool) → c .inline ≡ [] → glued (passing ds (some c) [] s h) gs ≡ preceded ds (readFrom c gs)
 unfolding glued readFrom
 glued-from (stopped n) ds c s h e = refl
 glued-from (ending g) ds c s h e = rw e
 glued-from (Gaps.child g x gs) ds c s h e = rw e (glued-from gs (ds ++ closedBy c g ∷ []) (childAt g x) false true refl ∙ preceded-both ds (closedBy c g ∷ []) (readFrom (childAt g x) gs))
 
+-- no children in front
 pub preceded-none : (r : Reading) → preceded [] r ≡ r
 preceded-none (foreign n) = refl
 preceded-none (read cs e) = refl
