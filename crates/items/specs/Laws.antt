@@ -150,8 +150,5 @@ going-none xs o = record { rest = λ h. h }
 pub going-more : {xs ys zs us : List Item} {o a b : Held} → Going xs ys o a → ys ≡ us ++ zs → Says us a b → Going xs zs o b
 going-more g e h = record { rest = λ k. g .rest (rw e (h ▸▸ k)) }
 
-pub going-last : {xs ys : List Item} {o a b : Held} → Going xs ys o a → Says ys a b → Says xs o b
-going-last g h = g .rest h
-
 pub going-all : {xs ys : List Item} {o a : Held} → Going xs ys o a → ys ≡ [] → Says xs o a
 going-all g e = g .rest (rw e unsaid)
