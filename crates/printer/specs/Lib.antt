@@ -1,0 +1,4 @@
+-- What the printers print: rows of pieces, small printings, and the printing of a tree.
+pub mod Layout
+pub mod Combine
+pub mod Print

@@ -1,0 +1,1 @@
+// lib.rs: what each node of the tree prints.
