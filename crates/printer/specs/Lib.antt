@@ -2,3 +2,4 @@
 pub mod Layout
 pub mod Combine
 pub mod Print
+pub mod Rows

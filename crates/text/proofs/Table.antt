@@ -1,4 +1,4 @@
--- A table of numbers that are given by a rule. A constant table that computes to `tabled n f 0` has the rule f at every place.
+-- A table that is given by a rule. A constant table that computes to `tabled n f 0` has the rule f at every place.
 use mathlib.Core.Path.{_≡_}
 use mathlib.Core.List.{List, [], _∷_}
 use Prim.Native.Nat.{ℕ, zero, suc, _+_, _<_}
@@ -7,17 +7,18 @@ use native.Mathlib.Omega.{arith}
 use lib.ListN.{getD}
 
 -- f of i and of the numbers after it, n in all
-abbrev pub tabled : ℕ → (ℕ → ℕ) → ℕ → List ℕ
+abbrev pub tabled : {A : Type 0} → ℕ → (ℕ → A) → ℕ → List A
 tabled zero f i = []
 tabled (suc n) f i = f i ∷ tabled n f (suc i)
 
-tabled-from : (n : ℕ) (f : ℕ → ℕ) (i k : ℕ) → k < n → getD (tabled n f i) k 0 ≡ f (i + k)
-tabled-from zero f i k h = absurd (omega arith)
-tabled-from (suc n) f i zero h = rw add-zero
-tabled-from (suc n) f i (suc k) h =
-    let e : suc i + k ≡ i + suc k = omega arith in
-    rw e at (tabled-from n f (suc i) k (omega arith))
+module _ {A : Type 0} (d : A) where
+  tabled-from : (n : ℕ) (f : ℕ → A) (i k : ℕ) → k < n → getD (tabled n f i) k d ≡ f (i + k)
+  tabled-from zero f i k h = absurd (omega arith)
+  tabled-from (suc n) f i zero h = rw add-zero
+  tabled-from (suc n) f i (suc k) h =
+      let e : suc i + k ≡ i + suc k = omega arith in
+      rw e at (tabled-from n f (suc i) k (omega arith))
 
--- what stands at k is f of k
-pub tabled-at : (n : ℕ) (f : ℕ → ℕ) (k : ℕ) → k < n → getD (tabled n f 0) k 0 ≡ f k
-tabled-at n f k h = rw zero-add at (tabled-from n f 0 k h)
+  -- what stands at k is f of k
+  pub tabled-at : (n : ℕ) (f : ℕ → A) (k : ℕ) → k < n → getD (tabled n f 0) k d ≡ f k
+  tabled-at n f k h = rw zero-add at (tabled-from n f 0 k h)

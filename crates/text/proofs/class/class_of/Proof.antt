@@ -10,7 +10,7 @@ use Rattle.text.proofs.class.class_of.Tie as tie
 
 returns : tie.Need-returns
 unfolding classOf leadLength follows isPad isWhite whiteSpace utf8 any sameBytes
-returns c = tabled-at 256 classOf (c .args .b) (omega arith)
+returns c = tabled-at 0 256 classOf (c .args .b) (omega arith)
 
 pub class-of-spec : {M : Type 1} → statement M
 class-of-spec =
