@@ -113,12 +113,13 @@ def children(es, i):
 
 
 def table(data):
-    n, b, es = read(data)
-    out, at = [], 0
+    """Kind, end of the subtree and place of the text in the image for each element, and an entry for the end."""
+    n, _, es = read(data)
+    out, at = [], 8 + 8 * n
     for e, end in zip(es, ends(es)):
         out += [e[0], end, at]
         at += e[2]
-    return out + [0, n, b]
+    return out + [0, n, at]
 
 
 def joined(es, i):

@@ -21,7 +21,7 @@ use Rattle.tree.specs.Index.{Region, kindAt, partAt, partsFrom, endAt}
 use Rattle.tree.specs.Parts.{region-part, region-past, region-next, parts-over}
 use Rattle.children.specs.declared.around.Notes.{Notes}
 use Rattle.children.specs.Reading.{upTo, behindPart, upToPart, between, foreignAt, withTrivia, strict, leading, triviaBefore, triviaAfter}
-use Rattle.children.specs.Stretch.{notes, note-kinds, Jumps, here, jumps-le, jumps-next, jumps-behind}
+use Rattle.children.specs.Stretch.{notes, note-kinds, Jumps, here, jumps-le, jumps-next, jumps-behind, Stretch}
 use Rattle.children.specs.Between.{Among, among, among-in, among-behind, among-upto, region-behind, region-upto, region-none, fromAt, toAt, Ends, Bounded, aroundAt, Beside, isKept, foreignIn, Led}
 use Rattle.children.proofs.Walks.{parts-more, all-more}
 
@@ -45,6 +45,12 @@ module _ {index text : List ℕ} {a b : ℕ} (r : Region index text a b) where
   abbrev start-region : (s : Option ℕ) → Inside s → Region index text (fromAt index s a) b
   start-region none h = r
   start-region (some j) h = region-behind (h j refl)
+
+  start-reached : (s : Option ℕ) → Inside s → Stretch index text a (fromAt index s a)
+  start-reached none h = record { n = r .n; table = r .table; upto = r .begins; jumps = here }
+  start-reached (some j) h =
+      let m : Among r j = h j refl in
+      record { n = r .n; table = r .table; upto = r .table .inside j (among-in m); jumps = jumps-next (r .table) (m .jumps) (among-in m) }
 
   from-start : (s : Option ℕ) → Inside s → (x : Option Part) → numberOf x ≡ s → behindPart x (partsFrom index text a b) ≡ partsFrom index text (fromAt index s a) b
   from-start s h none e = rw (← e)
@@ -70,6 +76,17 @@ module _ {index text : List ℕ} {from b : ℕ} (f : Region index text from b) (
       go none q = f
       go (some j) q = at j q (ltb j from) refl
 
+  to-within : toAt e from b ≤ b
+  to-within = go e refl
+    where
+      at : (j : ℕ) → e ≡ some j → (t : Bool) → ltb j from ≡ t → cond t b j ≤ b
+      at j q true p = omega arith
+      at j q false p = omega (arith, h j q (ltb-false j from p) .before)
+
+      go : (o : Option ℕ) → e ≡ o → toAt o from b ≤ b
+      go none q = omega arith
+      go (some j) q = at j q (ltb j from) refl
+
   up-to-end : (y : Option Part) → numberOf y ≡ e → upToPart y (partsFrom index text from b) ≡ partsFrom index text from (toAt e from b)
   up-to-end none q = rw (← q)
   up-to-end (some y) q = rw (← q) (at (ltb (y .number) from) refl)
@@ -89,6 +106,8 @@ unfolding between
 bounded {index} {text} {a} {b} {s} {e} {from} {to} {u} {v} E p q c d =
     rw (q, p, c, d) (record {
       region = to-region f e g;
+      reached = start-reached r s hs;
+      within = to-within f e g;
       read = λ wanted x y t i k. rw (from-start r s hs x i, up-to-end f e g y k, loose-is x y i k);
     })
   where

@@ -20,7 +20,7 @@ use Rattle.tree.specs.Parts.{parts-next, parts-over}
 use Rattle.children.specs.declared.between.Bounds.{Bounds}
 use Rattle.children.specs.declared.around.Notes.{Notes}
 use Rattle.children.specs.Reading.{behind, upTo, between, pass, start, Around, foreignAt, trivia, leading}
-use Rattle.children.specs.Stretch.{notes, Jumps, here, jump, jumps-le}
+use Rattle.children.specs.Stretch.{notes, Jumps, here, jump, jumps-le, Stretch}
 
 -- j is one of the siblings from a on that begin before b.
 pub record Among {index text : List ℕ} {a b : ℕ} (r : Region index text a b) (j : ℕ) : Type 0 where
@@ -178,9 +178,12 @@ pub record Ends (index text : List ℕ) (a b : ℕ) (s e : Option ℕ) : Type 0 
 pub no-end : {index text : List ℕ} {a b : ℕ} {s : Option ℕ} → Region index text a b → ((j : ℕ) → s ≡ some j → has j (partsFrom index text a b) ≡ true) → Ends index text a b s none
 no-end r h = record { region = r; starts = h; ends = λ j e. none-some j e }
 
--- r is where a reading between a start and an end begins and ends, and whether it is loose.
+-- r is where a reading between a start and an end begins and ends, and whether it is loose. It begins at one of the siblings from a
+-- on, or at their end.
 pub record Bounded (index text : List ℕ) (a b : ℕ) (s e : Option ℕ) (r : Bounds) : Type 0 where
   pub region : Region index text (r .from) (r .to)
+  pub reached : Stretch index text a (r .from)
+  pub within : r .to ≤ b
   pub read : (wanted : Class) (x y : Option Part) (t : Option (List Part)) → numberOf x ≡ s → numberOf y ≡ e
       → between wanted x y t (partsFrom index text a b) ≡ pass wanted (r .loose) (partsFrom index text (r .from) (r .to)) (start t)
 

@@ -4,6 +4,7 @@ pub mod Gaps
 pub mod Glue
 pub mod Whole
 pub mod Stretch
+pub mod Kids
 pub mod Spans
 pub mod Lead
 pub mod Uses

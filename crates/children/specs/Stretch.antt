@@ -4,6 +4,7 @@ use mathlib.Core.Bool.{Bool, true, false, not, _&&_, _||_}
 use mathlib.Core.List.{List, _++_}
 use Prim.Native.Nat.{ℕ, _<_, _≤_}
 use native.Mathlib.Omega.{arith}
+use native.Mathlib.Decide.{decLt}
 use lib.Dec.{leb, eqb}
 use borrow.Author.Tests.{le-leb, lt-leb, leb-true, leb-false}
 use Rattle.tree.specs.Tree.{Part}
@@ -46,6 +47,16 @@ pub data Jumps (index : List ℕ) (n : ℕ) : ℕ → ℕ → Type 0 where
   here : {a : ℕ} → Jumps index n a a
   jump : {a j : ℕ} → a < n → Jumps index n (endAt index a) j → Jumps index n a j
 
+-- jumps from where others led
+pub jumps-both : {index : List ℕ} {n a j e : ℕ} → Jumps index n a j → Jumps index n j e → Jumps index n a e
+jumps-both here k = k
+jumps-both (jump h l) k = jump h (jumps-both l k)
+
+-- jumps among more elements
+jumps-wider : {index : List ℕ} {n m a j : ℕ} → n ≤ m → Jumps index n a j → Jumps index m a j
+jumps-wider h here = here
+jumps-wider h (jump {a} g k) = jump {a = a} (omega arith) (jumps-wider h k)
+
 module _ {index text : List ℕ} {n : ℕ} (t : Table index text n) where
   -- jumps go on
   pub jumps-le : {a j : ℕ} → Jumps index n a j → a ≤ j
@@ -70,3 +81,11 @@ pub record Stretch (index text : List ℕ) (a b : ℕ) : Type 0 where
   pub table : Table index text n
   pub upto : b ≤ n
   pub jumps : Jumps index n a b
+
+-- a stretch and the next are one: the wider of their tables holds both
+pub stretch-both : {index text : List ℕ} {a c b : ℕ} → Stretch index text a c → Stretch index text c b → Stretch index text a b
+stretch-both {index} {text} {a} {c} {b} s t = go (decLt (s .n) (t .n))
+  where
+    go : Dec (s .n < t .n) → Stretch index text a b
+    go (yes p) = record { n = t .n; table = t .table; upto = t .upto; jumps = jumps-both (jumps-wider (omega arith) (s .jumps)) (t .jumps) }
+    go (no p) = record { n = s .n; table = s .table; upto = omega (arith, t .upto); jumps = jumps-both (s .jumps) (jumps-wider (omega arith) (t .jumps)) }

@@ -13,6 +13,7 @@ use Rattle.children.specs.Reading.{pass, start}
 use Rattle.children.specs.Gaps.{Gaps, stopped, ending, gaps}
 use Rattle.tree.specs.Index.{Region, partsFrom, partAt, endAt}
 use Rattle.tree.specs.Parts.{region-next}
+use Rattle.children.specs.Stretch.{Stretch, stretch-both}
 use Rattle.children.specs.Spans.{Spans, spanned, gapAt, Surveyed, surveyed}
 use Rattle.children.specs.Lead.{Leads, leads, led, leadAt, SurveyedAfter, whole-after}
 use Rattle.children.specs.Whole.{whole, whole-sums, sumsOf}
@@ -39,6 +40,10 @@ module _ {index text : List ℕ} {w : Kinds} {loose after : Bool} {from b : ℕ}
   pub span-next : (next : ℕ) → r .end ≡ 0 → next ≡ endAt index (r .to) → Region index text next b
   span-next next e q = rw q (region-next (h .onward) (h .inside e))
 
+  -- its end is reached from its beginning
+  pub span-reached : Stretch index text from (r .to)
+  span-reached = rw (h .begins) at (stretch-both (h .lies .first) (h .lies .second))
+
 -- the same at the first gap of a reading with a trailing list
 module _ {index text : List ℕ} {w : Kinds} {loose : Bool} {from b : ℕ} {r : Span} (h : Leads index text w loose from b r) where
   -- a child, and what is behind it
@@ -59,6 +64,10 @@ module _ {index text : List ℕ} {w : Kinds} {loose : Bool} {from b : ℕ} {r : 
   -- where the next gap begins
   pub lead-next : (next : ℕ) → r .end ≡ 0 → next ≡ endAt index (r .to) → Region index text next b
   lead-next next e q = rw q (region-next (h .onward) (h .inside e))
+
+  -- its end is reached from its beginning
+  pub lead-reached : Stretch index text from (r .to)
+  lead-reached = rw (h .begins) at (stretch-both (h .lies .first) (h .lies .second))
 
 -- A survey is the survey of the reading.
 pub survey-reading : (wanted : Class) {index text : List ℕ} {loose : Bool} {from b : ℕ} {r : Outline} → Surveyed index text (kinds wanted) loose from b r

@@ -190,11 +190,10 @@ fn answers(image: &[u8], table: &[u32], want: &[u8]) -> bool
     }
     let a = node + 1;
     let b = end_at(table, node);
-    let text = tree::texts_of(image);
-    let p = same(plain(table, text, false, a, b), want, 0);
-    let q = same(plain(table, text, true, a, b), want, 1);
-    let r = same(trailing(table, text, false, a, b), want, 2);
-    let s = same(trailing(table, text, true, a, b), want, 3);
+    let p = same(plain(table, image, false, a, b), want, 0);
+    let q = same(plain(table, image, true, a, b), want, 1);
+    let r = same(trailing(table, image, false, a, b), want, 2);
+    let s = same(trailing(table, image, true, a, b), want, 3);
     p & q & r & s
 }
 

@@ -6,9 +6,9 @@ use native.Mathlib.Omega.{arith}
 use native.Mathlib.Decide.{ℕ-discrete}
 use lib.ListN.{length, getD, set, drop, length-set}
 use lib.Seq.{getD-set-same, getD-set-other, drop-set-lt}
-use Rattle.tree.specs.Tree.{countN, countB}
-use Rattle.tree.specs.Image.{kindIn, sizeIn, startIn, start-next}
-use Rattle.tree.specs.Accepted.{accepted}
+use Rattle.tree.specs.Tree.{countN}
+use Rattle.tree.specs.Image.{kindIn, sizeIn, placeIn, start-next}
+use Rattle.tree.specs.Accepted.{Accepted, accepted}
 use Rattle.tree.specs.Ends.{endIn}
 use Rattle.tree.specs.Index.{kindAt, endAt, startAt, Entry, indexSize, IndexedFrom, Indexable, Filled}
 
@@ -60,20 +60,21 @@ module _ (t : List ℕ) (i kind end start : ℕ) where
 -- The entries from i on are written.
 pub record Filling (image before table : List ℕ) (start i : ℕ) : Type 0 where
   pub upto : i ≤ countN image
-  pub here : start ≡ startIn image i
+  pub here : start ≡ placeIn image i
   pub done : IndexedFrom image table i
   pub kept : drop (indexSize image) table ≡ drop (indexSize image) before
   pub sized : length table ≡ length before
 
 -- the last entry
-pub filling-none : {image before table : List ℕ} {n b : ℕ} → Indexable image before → n ≡ countN image → b ≡ countB image → table ≡ put before n 0 n b → Filling image table table b n
-filling-none {image} {before} {table} {n} {b} p e f q =
-    let s : b ≡ startIn image (countN image) = f ∙ sym (accepted image (p .passed) .sizes) in
-    let l : Entry table n 0 n b = rw q (put-here before n 0 n b (omega (arith, p .room))) in
+pub filling-none : {image before table : List ℕ} {n start : ℕ} → Indexable image before → n ≡ countN image → start ≡ length image → table ≡ put before n 0 n start → Filling image table table start n
+filling-none {image} {before} {table} {n} {start} p e f q =
+    let a : Accepted image = accepted image (p .passed) in
+    let s : start ≡ placeIn image (countN image) = omega (arith, a .sizes, a .long) in
+    let l : Entry table n 0 n start = rw q (put-here before n 0 n start (omega (arith, p .room))) in
     record {
       upto = omega arith;
-      here = s ∙ ap (startIn image) (sym e);
-      done = record { room = omega (arith, p .room, ap length q ∙ put-length before n 0 n b); entry = λ j h k. absurd (omega arith); last = rw (e, s) at l };
+      here = s ∙ ap (placeIn image) (sym e);
+      done = record { room = omega (arith, p .room, ap length q ∙ put-length before n 0 n start); entry = λ j h k. absurd (omega arith); last = rw (e, s) at l };
       kept = refl;
       sized = refl;
     }
@@ -84,24 +85,24 @@ module _ {image before table : List ℕ} {start i : ℕ} (f : Filling image befo
   step = omega arith
 
   -- the text of the element in front starts where its length says
-  pub filling-start : start ≡ startIn image (i - 1) + sizeIn image (i - 1)
-  filling-start = f .here ∙ rw step at (start-next image (i - 1))
+  pub filling-start : start ≡ placeIn image (i - 1) + sizeIn image (i - 1)
+  filling-start = omega (arith, f .here, rw step at (start-next image (i - 1)))
 
   pub filling-behind : IndexedFrom image table (i - 1 + 1)
   filling-behind = rw step (f .done)
 
   -- the table with the entry of the element in front
   abbrev next : List ℕ
-  next = put table (i - 1) (kindIn image (i - 1)) (endIn image (i - 1)) (startIn image (i - 1))
+  next = put table (i - 1) (kindIn image (i - 1)) (endIn image (i - 1)) (placeIn image (i - 1))
 
   room : (i - 1) * 3 + 2 < length table
   room = omega (arith, f .upto, f .done .room)
 
-  next-entry : (j : ℕ) → i - 1 ≤ j → j < countN image → Dec (j ≡ i - 1) → Entry next j (kindIn image j) (endIn image j) (startIn image j)
+  next-entry : (j : ℕ) → i - 1 ≤ j → j < countN image → Dec (j ≡ i - 1) → Entry next j (kindIn image j) (endIn image j) (placeIn image j)
   next-entry j a b (yes d) = rw d (put-here table (i - 1) _ _ _ room)
   next-entry j a b (no d) = put-other table (i - 1) _ _ _ d (f .done .entry j (omega arith) b)
 
-  next-filling : Filling image before next (startIn image (i - 1)) (i - 1)
+  next-filling : Filling image before next (placeIn image (i - 1)) (i - 1)
   next-filling =
       let l : length next ≡ length table = put-length table (i - 1) _ _ _ in
       record {
@@ -119,7 +120,7 @@ module _ {image before table : List ℕ} {start i : ℕ} (f : Filling image befo
   pub filling-more : {size kind end : ℕ} {after : List ℕ} → size ≡ sizeIn image (i - 1) → kind ≡ kindIn image (i - 1) → end ≡ endIn image (i - 1)
       → after ≡ put table (i - 1) kind end (start - size) → Filling image before after (start - size) (i - 1)
   filling-more {size} p q r e =
-      let s : start - size ≡ startIn image (i - 1) = omega (arith, filling-start, p) in
+      let s : start - size ≡ placeIn image (i - 1) = omega (arith, filling-start, p) in
       rw (e, q, r, s) next-filling
 
 -- all entries

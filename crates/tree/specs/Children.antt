@@ -3,16 +3,16 @@ use mathlib.Core.Path.{_≡_, refl, _∙_, sym}
 use mathlib.Core.Bool.{Bool, true, false, cond, _&&_}
 use mathlib.Core.Option.{Option, none, some}
 use mathlib.Core.List.{List, [], _∷_, _++_}
-use Prim.Native.Nat.{ℕ, zero, suc, _+_, _*_, _-_, _≤_, _<_}
+use Prim.Native.Nat.{ℕ, zero, suc, _+_, _-_, _≤_, _<_}
 use native.Mathlib.Omega.{arith}
 use native.Mathlib.Decide.{decLt}
 use lib.Dec.{eqb}
-use lib.ListN.{take, drop, length-drop}
+use lib.ListN.{take, drop}
 use lib.Seq.{drop-drop, take-add}
 use borrow.Author.Tests.{lt-ltb, le-ltb, eqb-true}
 use Rattle.text.specs.Basic.{and-true}
 use Rattle.tree.specs.Tree.{countN, textsOf, elementsOf, Part, nil, tree, forest, treeOf, texts, parts}
-use Rattle.tree.specs.Image.{kindIn, levelIn, sizeIn, startIn, textIn, elementIn, elements-cons, elements-none, start-next}
+use Rattle.tree.specs.Image.{kindIn, levelIn, sizeIn, startIn, placeIn, textIn, elementIn, elements-cons, elements-none, start-next}
 use Rattle.tree.specs.Refusal.{misplacedAfter, firstMisplaced}
 use Rattle.tree.specs.Search.{misplacedFrom, misplaced-search, still-none, split-none}
 use Rattle.tree.specs.Accepted.{Accepted, accepted}
@@ -41,6 +41,13 @@ module _ (image : List ℕ) where
       let s : startIn image b - startIn image a ≡ sizeIn image a + (startIn image b - startIn image (a + 1)) = omega (arith, start-next image a, start-le (a + 1) b h) in
       let t : drop (startIn image (a + 1)) (textsOf image) ≡ drop (sizeIn image a) (drop (startIn image a) (textsOf image)) = rw (start-next image a, drop-drop) in
       rw (s, t) (sym (take-add (sizeIn image a) (startIn image b - startIn image (a + 1)) (drop (startIn image a) (textsOf image))))
+
+  -- the same by places in the image
+  between-places : (a b : ℕ) → take (placeIn image b - placeIn image a) (drop (placeIn image a) image) ≡ between a b
+  unfolding textsOf
+  between-places a b =
+      let e : placeIn image b - placeIn image a ≡ startIn image b - startIn image a = omega arith in
+      rw (e, drop-drop)
 
   between-none : (a : ℕ) → between a a ≡ []
   between-none a = let e : startIn image a - startIn image a ≡ 0 = omega arith in rw e
@@ -197,19 +204,19 @@ module _ {image index : List ℕ} (x : Indexed image index) where
   pub end-at : (i : ℕ) → i < countN image → endAt index i ≡ endIn image i
   end-at i h = x .entries .entry i (omega arith) h .ends
 
-  pub start-at : (i : ℕ) → i ≤ countN image → startAt index i ≡ startIn image i
+  pub start-at : (i : ℕ) → i ≤ countN image → startAt index i ≡ placeIn image i
   start-at i h = go (decLt i (countN image))
     where
-      go : Dec (i < countN image) → startAt index i ≡ startIn image i
+      go : Dec (i < countN image) → startAt index i ≡ placeIn image i
       go (yes p) = x .entries .entry i (omega arith) p .starts
-      go (no p) = let q : countN image ≡ i = omega arith in rw q at (x .entries .last .starts)
+      go (no p) = let q : i ≡ countN image = omega arith in rw q (x .entries .last .starts)
 
-  -- the part of the texts that the index gives
-  pub text-at : (i : ℕ) → i < countN image → textAt index (textsOf image) i ≡ between image i (endIn image i)
+  -- the part of the image that the index gives
+  pub text-at : (i : ℕ) → i < countN image → textAt index image i ≡ between image i (endIn image i)
   unfolding textAt
-  text-at i h = rw (end-at i h, start-at (endIn image i) (end-in image i h), start-at i (omega arith))
+  text-at i h = rw (end-at i h, start-at (endIn image i) (end-in image i h), start-at i (omega arith)) (between-places image i (endIn image i))
 
-  pub part-at : (i : ℕ) → i < countN image → partAt index (textsOf image) i ≡ partIn image i
+  pub part-at : (i : ℕ) → i < countN image → partAt index image i ≡ partIn image i
   part-at i h = rw (kind-at i h, text-at i h)
 
   -- behind the last child
@@ -218,25 +225,25 @@ module _ {image index : List ℕ} (x : Indexed image index) where
       let q : endIn image i ≡ j = omega (arith, c .upto) in
       rw q at (parts-none indexed-accepted i (c .node))
 
-  walked : (f i j : ℕ) → Child image i j → endIn image i ≤ j + f → walk f index (textsOf image) j (endIn image i) ≡ partsUnder image i j
+  walked : (f i j : ℕ) → Child image i j → endIn image i ≤ j + f → walk f index image j (endIn image i) ≡ partsUnder image i j
   unfolding walk
   walked zero i j c h = sym (at-end i j c (omega arith))
   walked (suc f) i j c h = go (decLt j (endIn image i)) (walked f i (endIn image j))
     where
-      go : Dec (j < endIn image i) → (Child image i (endIn image j) → endIn image i ≤ endIn image j + f → walk f index (textsOf image) (endIn image j) (endIn image i) ≡ partsUnder image i (endIn image j))
-          → walk (suc f) index (textsOf image) j (endIn image i) ≡ partsUnder image i j
+      go : Dec (j < endIn image i) → (Child image i (endIn image j) → endIn image i ≤ endIn image j + f → walk f index image (endIn image j) (endIn image i) ≡ partsUnder image i (endIn image j))
+          → walk (suc f) index image j (endIn image i) ≡ partsUnder image i j
       go (yes p) r =
           let n : j < countN image = omega (arith, end-in image i (c .node)) in
-          let q : walk f index (textsOf image) (endIn image j) (endIn image i) ≡ partsUnder image i (endIn image j) = r (child-next indexed-accepted c p) (omega (arith, end-past image j)) in
+          let q : walk f index image (endIn image j) (endIn image i) ≡ partsUnder image i (endIn image j) = r (child-next indexed-accepted c p) (omega (arith, end-past image j)) in
           rw (lt-ltb j (endIn image i) p, part-at j n, end-at j n, q) (sym (parts-here indexed-accepted c p))
       go (no p) r = rw (le-ltb j (endIn image i) (omega arith)) (sym (at-end i j c (omega arith)))
 
   -- the children from j on, by jumps, are those of the tree
-  pub parts-from : (i j : ℕ) → Child image i j → partsFrom index (textsOf image) j (endAt index i) ≡ partsUnder image i j
+  pub parts-from : (i j : ℕ) → Child image i j → partsFrom index image j (endAt index i) ≡ partsUnder image i j
   unfolding partsFrom
   parts-from i j c = rw (end-at i (c .node)) (walked (endIn image i - j) i j c (omega arith))
 
-  pub children : (i : ℕ) → i < countN image → partsFrom index (textsOf image) (i + 1) (endAt index i) ≡ partsUnder image i (i + 1)
+  pub children : (i : ℕ) → i < countN image → partsFrom index image (i + 1) (endAt index i) ≡ partsUnder image i (i + 1)
   children i h = parts-from i (i + 1) (child-first indexed-accepted i h)
 
   -- a child's subtree lies within its parent's
@@ -245,24 +252,23 @@ module _ {image index : List ℕ} (x : Indexed image index) where
       let g : j < endIn image i = rw (end-at i (c .node)) at h in
       rw (end-at i (c .node), end-at j (omega (arith, end-in image i (c .node)))) (end-under image i j (c .node) (c .behind) g)
 
-  -- the index is a table of spans of the texts
-  pub table : Table index (textsOf image) (countN image)
-  unfolding textsOf
+  -- the index is a table of spans of the image
+  pub table : Table index image (countN image)
   table =
       record {
         size = x .entries .room;
         past = λ i h. rw (end-at i h) (end-past image i);
         inside = λ i h. rw (end-at i h) (end-in image i h);
-        forward = λ i j h k. rw (start-at i (omega arith), start-at j k) (start-le image i j h);
-        whole = start-at (countN image) (omega arith) ∙ indexed-accepted .sizes ∙ sym (length-drop (8 + 8 * countN image) image ∙ (omega (arith, indexed-accepted .long)));
+        forward = λ i j h k. rw (start-at i (omega arith), start-at j k) (omega (arith, start-le image i j h));
+        whole = omega (arith, start-at (countN image) (omega arith), indexed-accepted .sizes, indexed-accepted .long);
       }
 
   -- the children of element i, from j on, may be walked
-  pub region-under : (i j : ℕ) → Child image i j → Region index (textsOf image) j (endAt index i)
+  pub region-under : (i j : ℕ) → Child image i j → Region index image j (endAt index i)
   region-under i j c =
       let e : endIn image i ≤ countN image = end-in image i (c .node) in
       record { n = countN image; table = table; begins = omega (arith, c .upto); ends = rw (end-at i (c .node)) e }
 
-  -- all of them, in the terms of the code: t the texts, a and b where the children begin and end
-  pub region-of : {t : List ℕ} {a b : ℕ} (i : ℕ) → i < countN image → t ≡ textsOf image → a ≡ i + 1 → b ≡ endAt index i → Region index t a b
-  region-of i h p q r = rw (p, q, r) (region-under i (i + 1) (child-first indexed-accepted i h))
+  -- all of them, in the terms of the code: a and b are where the children begin and end
+  pub region-of : {a b : ℕ} (i : ℕ) → i < countN image → a ≡ i + 1 → b ≡ endAt index i → Region index image a b
+  region-of i h q r = rw (q, r) (region-under i (i + 1) (child-first indexed-accepted i h))

@@ -26,6 +26,10 @@ unfoldable pub startIn : List ℕ → ℕ → ℕ
 startIn image zero = 0
 startIn image (suc i) = startIn image i + sizeIn image i
 
+-- where it starts in the image: the texts stand behind N, the elements and B
+abbrev pub placeIn : List ℕ → ℕ → ℕ
+placeIn image i = 8 + 8 * countN image + startIn image i
+
 -- the text of element i
 unfoldable pub textIn : List ℕ → ℕ → List ℕ
 textIn image i = take (sizeIn image i) (drop (startIn image i) (textsOf image))

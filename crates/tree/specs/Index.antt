@@ -1,4 +1,4 @@
--- The index of a tree: for each element its kind, where its subtree ends and where its text starts, and an entry more for the end.
+-- The index of a tree: for each element its kind, where its subtree ends and where in the image its text starts, and an entry more for the end.
 use mathlib.Core.Path.{_≡_}
 use mathlib.Core.Bool.{cond}
 use mathlib.Core.Option.{none}
@@ -8,7 +8,7 @@ use native.Mathlib.Omega.{arith}
 use lib.Dec.{ltb}
 use lib.ListN.{length, getD, take, drop}
 use Rattle.tree.specs.Tree.{Part, countN}
-use Rattle.tree.specs.Image.{kindIn, startIn}
+use Rattle.tree.specs.Image.{kindIn, placeIn}
 use Rattle.tree.specs.Ends.{endIn}
 use Rattle.tree.specs.Refusal.{refusal}
 use Rattle.tree.specs.Answer.{said, answer, Passing, passing}
@@ -40,8 +40,8 @@ indexSize image = countN image * 3 + 3
 -- The entries of an index from element i on are the tree's.
 pub record IndexedFrom (image index : List ℕ) (i : ℕ) : Type 0 where
   pub room : indexSize image ≤ length index
-  pub entry : (j : ℕ) → i ≤ j → j < countN image → Entry index j (kindIn image j) (endIn image j) (startIn image j)
-  pub last : Entry index (countN image) 0 (countN image) (startIn image (countN image))
+  pub entry : (j : ℕ) → i ≤ j → j < countN image → Entry index j (kindIn image j) (endIn image j) (placeIn image j)
+  pub last : Entry index (countN image) 0 (countN image) (placeIn image (countN image))
 
 -- The image passed the tests 1 to 9, and the index is its tree's.
 pub record Indexed (image index : List ℕ) : Type 0 where

@@ -1,4 +1,5 @@
 // The index of the tree: kind, end of the subtree and start of the text of each element, and an entry more for the end.
+// Starts are places in the image, so that the image itself is handed to the accessors.
 use super::access::END;
 use super::access::ENTRY;
 use super::access::START;
@@ -46,9 +47,8 @@ pub fn index(image: &[u8], table: &mut [u32])
     ensures { λ _. ⌜ Filled (now (image .entry)) (now (table .entry)) (now (table .exit)) ⌝ }
 {
     let n = read::element_count(image);
-    let b = read::byte_count(image);
-    put_entry(table, n, 0, n, b);
-    let mut start = b;
+    let mut start = image.len() as u32;
+    put_entry(table, n, 0, n, start);
     let mut i = n;
     while 0 < i {
         i -= 1;

@@ -6,7 +6,6 @@ mod read;
 mod refuse;
 
 pub use read::element_count;
-pub use read::texts_of;
 ghost use mathlib.Core.Path.{_≡_};
 ghost use Rattle.tree.specs.Answer.{said, answer};
 

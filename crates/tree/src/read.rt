@@ -85,7 +85,7 @@ pub fn front(s: &[u8], n: usize) -> &[u8]
 }
 
 // The texts, joined.
-pub fn texts_of(image: &[u8]) -> &[u8]
+fn texts_of(image: &[u8]) -> &[u8]
     ensures { λ r. ⌜ now r ≡ textsOf (now (image .entry)) ⌝ }
 {
     let n = element_count(image);

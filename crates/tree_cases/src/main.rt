@@ -149,12 +149,11 @@ fn found(image: &[u8], table: &[u32], op: u8, args: &[u8]) -> Found
     }
     let a = node + 1;
     let b = tree::access::end_at(table, node);
-    let text = tree::texts_of(image);
     let w = wanted(args);
     match op {
-        NTH => tree::access::nth_of(table, text, w, wide(byte(args, 5)), a, b),
-        LAST => tree::access::last_of(table, text, w, a, b),
-        _ => tree::access::plus_of(table, text, a, b),
+        NTH => tree::access::nth_of(table, image, w, wide(byte(args, 5)), a, b),
+        LAST => tree::access::last_of(table, image, w, a, b),
+        _ => tree::access::plus_of(table, image, a, b),
     }
 }
 

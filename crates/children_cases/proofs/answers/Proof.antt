@@ -7,8 +7,8 @@ use Rattle.children_cases.proofs.answers.Statement.{statement}
 use Rattle.children_cases.proofs.answers.Tie as tie
 
 -- the children of the first element
-region : (c : tie.After-texts-of) → Region (c .before .before .before .before .before .before .before .args .table .now) (c .texts-of .result .now) 1 (c .before .end-at .result)
-region c = region-of (c .before .before .before .before .before .before .before .pre) 0 (omega (arith, c .before .before .if1 .left, c .before .before .before .element-count .ensures)) (c .texts-of .ensures) refl (c .before .end-at .ensures)
+region : (c : tie.After-end-at) → Region (c .before .before .before .before .before .before .args .table .now) (c .before .before .before .before .before .before .args .image .now) 1 (c .end-at .result)
+region c = region-of (c .before .before .before .before .before .before .pre) 0 (omega (arith, c .before .if1 .left, c .before .before .element-count .ensures)) refl (c .end-at .ensures)
 
 pub answers-spec : {M : Type 1} → statement M
 answers-spec =
@@ -18,7 +18,6 @@ answers-spec =
     (λ c. search needs)  -- returns
     (λ c. search needs)  -- add-a
     (λ c κs. search needs)  -- end-at-requires
-    (λ c κs. search needs)  -- texts-of-requires
     (λ c κs. region c)  -- plain-requires
     (λ c κs. search needs)  -- same-requires
     (λ c κs. region (c .before .before))  -- plain-requires-2

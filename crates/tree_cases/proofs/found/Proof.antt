@@ -8,8 +8,8 @@ use Rattle.tree_cases.proofs.found.Statement.{statement}
 use Rattle.tree_cases.proofs.found.Tie as tie
 
 -- the children of the node
-region : (c : tie.After-wanted) → Region (c .before .before .before .before .before .before .before .before .before .args .table .now) (c .before .texts-of .result .now) (c .before .before .before .before .before .node-of .result + 1) (c .before .before .end-at .result)
-region c = region-of (c .before .before .before .before .before .before .before .before .before .pre) _ (omega (arith, c .before .before .before .if1 .left, c .before .before .before .before .element-count .ensures)) (c .before .texts-of .ensures) refl (c .before .before .end-at .ensures)
+region : (c : tie.After-wanted) → Region (c .before .before .before .before .before .before .before .before .args .table .now) (c .before .before .before .before .before .before .before .before .args .image .now) (c .before .before .before .before .node-of .result + 1) (c .before .end-at .result)
+region c = region-of (c .before .before .before .before .before .before .before .before .pre) _ (omega (arith, c .before .before .if1 .left, c .before .before .before .element-count .ensures)) refl (c .before .end-at .ensures)
 
 pub found-spec : {M : Type 1} → statement M
 found-spec =
@@ -20,7 +20,6 @@ found-spec =
     (λ c. search needs)  -- returns
     (λ c. search needs)  -- add-a
     (λ c κs. search needs)  -- end-at-requires
-    (λ c κs. search needs)  -- texts-of-requires
     (λ c κs. search needs)  -- wanted-requires
     (λ c κs. search needs)  -- byte-requires
     (λ c κs. search needs)  -- wide-requires

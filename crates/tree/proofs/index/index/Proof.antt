@@ -1,17 +1,19 @@
+use mathlib.Core.Path.{refl}
 use native.Mathlib.Omega.{arith}
 use borrow.Author.Needs.{needs}
+use Rattle.tree.specs.Accepted.{accepted}
 use Rattle.tree.proofs.Filling.{Filling, filling-none, filling-start, filling-behind, filling-more, filling-all}
 use Rattle.tree.proofs.index.index.Statement.{statement}
 use Rattle.tree.proofs.index.index.Tie as tie
 
 abbrev Inv-loop : tie.InvT-loop
-Inv-loop image table₀ n b start₀ i₀ table start i = Filling image table₀ table start i
+Inv-loop image table₀ n start₀ i₀ table start i = Filling image table₀ table start i
 
 abbrev μ-loop : tie.MeasureT-loop
-μ-loop image table₀ n b start₀ i₀ table start i = i
+μ-loop image table₀ n start₀ i₀ table start i = i
 
 returns : tie.Need-returns Inv-loop μ-loop
-returns c = filling-all _ (c .before .before .before .before .before .before .before .before .before .before .pre) (c .before .before .before .before .before .before .before .element-count .ensures) (c .before .before .before .before .put-entry .ensures) (c .before .loop .inv) (c .loop-test .left)
+returns c = filling-all _ (c .before .before .before .before .before .before .before .before .before .pre) (c .before .before .before .before .before .before .element-count .ensures) (c .before .before .before .before .put-entry .ensures) (c .before .loop .inv) (c .loop-test .left)
 
 pub index-spec : {M : Type 1} → statement M
 index-spec =
@@ -20,9 +22,9 @@ index-spec =
     Inv-loop
     μ-loop
     (λ c κs. search needs)  -- element-count-requires
-    (λ c κs. search needs)  -- byte-count-requires
-    (λ c κs. omega (arith, c .before .before .before .before .before .pre .room))  -- put-entry-requires
-    (λ c. filling-none (c .before .before .before .before .before .before .before .before .pre) (c .before .before .before .before .before .element-count .ensures) (c .before .before .before .before .byte-count .ensures) (c .before .before .put-entry .ensures))  -- loop-holds
+    (λ c. let a = accepted _ (c .before .before .before .pre .passed) in omega (arith, a .long, a .few-elements, a .few-bytes))  -- cast-start
+    (λ c κs. omega (arith, c .before .before .before .before .pre .room))  -- put-entry-requires
+    (λ c. filling-none (c .before .before .before .before .before .before .before .pre) (c .before .before .before .before .element-count .ensures) refl (c .before .before .put-entry .ensures))  -- loop-holds
     (λ c. search needs)  -- sub-i
     (λ c κs. search needs)  -- size-of-requires
     (λ c. omega (arith, filling-start (c .before .before .loop .inv) (c .before .loop-test .taken), c .size-of .ensures))  -- sub-start
