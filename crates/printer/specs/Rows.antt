@@ -5,7 +5,8 @@ use mathlib.Core.List.{List, [], _∷_, _++_, flatten, map}
 use Prim.Native.Nat.{ℕ, _-_, _<_, _≤_}
 use Prim.Native.String.{String}
 use lib.Dec.{eqb}
-use lib.ListN.{getD, take, drop}
+use lib.ListN.{length, getD, take, drop}
+use Rattle.text.specs.Basic.{ascii}
 use Rattle.items.specs.declared.Signal.the-variants.{NewLine, StartIndent, FinishIndent}
 use Rattle.items.specs.Item.{Print, none, lit}
 use Rattle.tree.specs.declared.class.Class.the-variants as Class
@@ -27,6 +28,19 @@ words =
 -- the text with a number
 abbrev pub wordAt : ℕ → String
 wordAt w = getD words w ""
+
+-- all texts joined
+abbrev pub joined : List ℕ
+joined = flatten (map ascii words)
+
+-- where the text with a number starts among them
+abbrev pub startOf : ℕ → ℕ
+startOf w = length (flatten (take w (map ascii words)))
+
+-- w is the number of a text.
+pub record Word (w : ℕ) (s : String) : Type 0 where
+  pub known : w < 50
+  pub text : wordAt w ≡ s
 
 -- the text with a number; number 0 is no text at all
 unfoldable pub wordOrNone : ℕ → Print

@@ -1,10 +1,11 @@
 // The texts of the formatter's own, by their numbers.
 use items::Printed;
 use items::print_text;
+ghost use mathlib.Core.Path.{_≡_};
 ghost use Prim.Native.Nat.{_<_};
 ghost use Rattle.items.specs.Item.{lit};
 ghost use Rattle.items.specs.Machine.{held, Prints};
-ghost use Rattle.printer.specs.Rows.{wordAt, wordOrNone};
+ghost use Rattle.printer.specs.Rows.{wordAt, startOf, wordOrNone};
 
 pub const COMMA: u32 = 1;
 
@@ -91,6 +92,22 @@ const STARTS: [u16; 51] = [
     506,
 ];
 
+// A place as a number.
+fn wide(x: u16) -> usize
+    ensures { λ r. ⌜ r ≡ x ⌝ }
+{
+    x as usize
+}
+
+// Where the text with a number starts, which is where the one before it ends.
+fn start_of(w: u32) -> usize
+    requires { ⌜ w < 51 ⌝ }
+    ensures { λ r. ⌜ r ≡ startOf w ⌝ }
+{
+    let at = w as usize;
+    wide(STARTS[at])
+}
+
 // Prints the text with a number.
 pub fn print_word(records: &mut [u32], texts: &mut [u8], w: u32, p: Printed) -> Printed
     requires { ⌜ w < 50 ⌝ }
@@ -98,9 +115,8 @@ pub fn print_word(records: &mut [u32], texts: &mut [u8], w: u32, p: Printed) -> 
 {
     let all: &[u8] =
         b", [ ][]{ }{}()locallocal ;/*missing ExprBase*//*missing Expr*//*missing BinaryOperator*//*missing UnaryOperator*//*missing Text*//*missing Number*//*missing Literal*//*missing ObjBody*//*missing ImportKind*//*missing Name*/if  then /*missing core::option::Option<Expr>*/ else function/*missing ParamsDesc*/error ?..?/*missing SliceDesc*//*missing ArgsDesc*//*missing Assertion*//*missing Destruct*/ = /*missing ObjLocal*//*missing FieldName*//*missing Visibility*/for  in for [...:/*missing Bind*/assert : ";
-    let at = w as usize;
-    let start = STARTS[at] as usize;
-    let end = STARTS[at + 1] as usize;
+    let start = start_of(w);
+    let end = start_of(w + 1);
     print_text(records, texts, &all[start..end], p)
 }
 

@@ -1,8 +1,8 @@
 -- Laws that belong to no one function.
-mod Below
+pub mod Below
 mod Flags
 mod Owing
-mod Table
+pub mod Table
 mod Trimming
 mod Walking
 mod WhiteSpace
