@@ -3,3 +3,4 @@ pub mod Layout
 pub mod Combine
 pub mod Print
 pub mod Rows
+pub mod Seq
