@@ -4,3 +4,4 @@ pub mod Combine
 pub mod Print
 pub mod Rows
 pub mod Seq
+pub mod Under

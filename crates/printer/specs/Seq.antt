@@ -1,7 +1,6 @@
 -- Equations of printings in a row, and what a loop has printed so far.
 use mathlib.Core.Path.{_≡_, refl}
 use mathlib.Core.List.{List, [], _++_, append-nil, append-assoc}
-use Prim.Native.Nat.{ℕ}
 use Rattle.items.specs.Item.{Item, Out, stop, ok, Print, after, next, _⨟_, none}
 use Rattle.items.specs.Machine.{Held, Prints}
 use Rattle.items.specs.Laws.{idle, _▸_, by}
