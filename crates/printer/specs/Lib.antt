@@ -5,3 +5,4 @@ pub mod Print
 pub mod Rows
 pub mod Seq
 pub mod Under
+pub mod Walked
