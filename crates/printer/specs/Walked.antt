@@ -1,5 +1,5 @@
 -- A reading's children printed gap by gap: what is printed around each child, and the steps of a walk over spans.
-use mathlib.Core.Path.{_≡_, refl, ap, _∙_, sym}
+use mathlib.Core.Path.{_≡_, refl, _∙_, sym}
 use mathlib.Core.Bool.{Bool, true, false, false≢true, cond, _&&_}
 use mathlib.Core.List.{List, [], _∷_}
 use Prim.Native.Nat.{ℕ}
@@ -19,14 +19,14 @@ use Rattle.children.specs.Comments.{comments}
 use Rattle.children.specs.Reading.{Child, Ending, Reading, foreign, read, more, anyManyLines}
 use Rattle.children.specs.Gaps.{Gap, gapOf, newlinesAt, Gaps, gaps}
 use Rattle.children.specs.Gaps as G
-use Rattle.children.specs.Whole.{childAt, closedBy, endingAt, preceded, readFrom, readingOf, sumsOf}
+use Rattle.children.specs.Whole.{childAt, closedBy, preceded, readFrom, readingOf, sumsOf}
 use Rattle.children.specs.Lead.{childAfter, readingAfter}
 use Rattle.children.specs.Spans.{gapAt, spanned, Spans, surveyed}
 use Rattle.printer.specs.Combine.{newlineIf}
 use Rattle.printer.specs.Print.{withComments, children, values}
 use Rattle.printer.specs.Seq.{seq-assoc}
 
--- the first of some gaps; behind a reading that stops none is printed
+-- the first of some gaps; a reading that stops has none, and is not printed
 abbrev pub frontOf : Gaps → Gap
 frontOf (G.stopped n) = gapOf [] [] false
 frontOf (G.ending g) = g
@@ -202,33 +202,36 @@ pub through-first : {index image : List ℕ} {w : Kinds} {loose : Bool} {from b 
     → Spans index image w loose false from b s → readingOf (gaps w loose true false (partsFrom index image from b)) ≡ read cs e → Through index image w loose b s
 through-first {index} {image} {w} {loose} {from} {b} h e = record { ends = rw (h .read) at (unstopped-read (gaps w loose true false (partsFrom index image from b)) e) }
 
+-- what a span is, by the tests of its end
+abbrev spanBy : Bool → Bool → Gap → Part → Gaps → ℕ → Gaps
+spanBy u v a x gs n = cond u (G.Gaps.child a x gs) (cond v (G.ending a) (G.stopped n))
+
+child-by : (u v : Bool) (a : Gap) (x : Part) (gs : Gaps) (n : ℕ) → hasChild (spanBy u v a x gs n) ≡ u
+child-by true v a x gs n = refl
+child-by false true a x gs n = refl
+child-by false false a x gs n = refl
+
+front-by : (u v : Bool) (a : Gap) (x : Part) (gs : Gaps) (n : ℕ) → unstopped (spanBy u v a x gs n) ≡ true → frontOf (spanBy u v a x gs n) ≡ a
+unfolding unstopped
+front-by true v a x gs n h = refl
+front-by false true a x gs n h = refl
+front-by false false a x gs n h = absurd (false≢true h)
+
 module _ (index image : List ℕ) (w : Kinds) (loose : Bool) (b : ℕ) (s : Span) where
   -- a span with a child
   opened : s .end ≡ 0 → spanned index image w loose b s ≡ G.Gaps.child (gapAt index image s) (partAt index image (s .to)) (gaps w loose false true (partsFrom index image (endAt index (s .to)) b))
   unfolding spanned
   opened e = rw (eq-eqb (s .end) 0 e)
 
+  -- whether it has one
   tested : hasChild (spanned index image w loose b s) ≡ eqb (s .end) 0
   unfolding spanned
-  tested = go (eqb (s .end) 0) (eqb (s .end) 1)
-    where
-      go : (u v : Bool)
-          → hasChild (cond u (G.Gaps.child (gapAt index image s) (partAt index image (s .to)) (gaps w loose false true (partsFrom index image (endAt index (s .to)) b))) (cond v (G.ending (gapAt index image s)) (G.stopped (s .to)))) ≡ u
-      go true v = refl
-      go false true = refl
-      go false false = refl
+  tested = child-by (eqb (s .end) 0) (eqb (s .end) 1) _ _ _ _
 
-  -- the first gap is the span's, but where a foreign element stops the reading
+  -- its gap is the first, but where a foreign element stops the reading
   fronted : unstopped (spanned index image w loose b s) ≡ true → frontOf (spanned index image w loose b s) ≡ gapAt index image s
-  unfolding spanned unstopped
-  fronted h = go (eqb (s .end) 0) (eqb (s .end) 1) h
-    where
-      go : (u v : Bool)
-          → unstopped (cond u (G.Gaps.child (gapAt index image s) (partAt index image (s .to)) (gaps w loose false true (partsFrom index image (endAt index (s .to)) b))) (cond v (G.ending (gapAt index image s)) (G.stopped (s .to)))) ≡ true
-          → frontOf (cond u (G.Gaps.child (gapAt index image s) (partAt index image (s .to)) (gaps w loose false true (partsFrom index image (endAt index (s .to)) b))) (cond v (G.ending (gapAt index image s)) (G.stopped (s .to)))) ≡ gapAt index image s
-      go true v h = refl
-      go false true h = refl
-      go false false h = absurd (false≢true h)
+  unfolding spanned
+  fronted h = front-by (eqb (s .end) 0) (eqb (s .end) 1) _ _ _ _ h
 
   -- no child, no step
   pub walk-none : (pr : ℕ → Print) (f g : Bool → Print) → (s .end ≡ 0 → ⊥) → walked pr f g (spanned index image w loose b s) ≡ none
@@ -253,20 +256,19 @@ module _ {index image : List ℕ} {w : Kinds} {loose : Bool} {b next : ℕ} {t :
       → spanned index image w loose b s ≡ G.Gaps.child (gapAt index image s) (partAt index image (s .to)) (spanned index image w loose b t)
   stepped s e q h = opened index image w loose b s e ∙ rw (← q, h .read)
 
-  -- a step without comments
+  -- the reading comes to its end from there too
+  pub through-next : {s : Span} → Through index image w loose b s → s .end ≡ 0 → next ≡ endAt index (s .to) → Spans index image w loose true next b t → Through index image w loose b t
+  unfolding unstopped
+  through-next {s} u e q h = record { ends = rw (stepped s e q h) at (u .ends) }
+
+  -- a step with comments
+  pub walk-next : (pr : ℕ → Print) (f g : Bool → Print) {s : Span} → Through index image w loose b s → s .end ≡ 0 → next ≡ endAt index (s .to) → Spans index image w loose true next b t
+      → walked pr f g (spanned index image w loose b s) ≡ around pr f g (gapAt index image s) (s .to) (gapAt index image t) (eqb (t .end) 0) ⨟ walked pr f g (spanned index image w loose b t)
+  unfolding walked
+  walk-next pr f g {s} u e q h = rw (stepped s e q h, fronted index image w loose b t (through-next u e q h .ends), tested index image w loose b t)
+
+  -- a step without
   pub value-next : (pr : ℕ → Print) (s : Span) → s .end ≡ 0 → next ≡ endAt index (s .to) → Spans index image w loose true next b t
       → valued pr (spanned index image w loose b s) ≡ pr (s .to) ⨟ valued pr (spanned index image w loose b t)
   unfolding valued
   value-next pr s e q h = rw (stepped s e q h)
-
-  module _ {s : Span} (u : Through index image w loose b s) (e : s .end ≡ 0) (q : next ≡ endAt index (s .to)) (h : Spans index image w loose true next b t) where
-    -- on to the span behind a child
-    pub through-next : Through index image w loose b t
-    unfolding unstopped
-    through-next = record { ends = rw (stepped s e q h) at (u .ends) }
-
-    -- a step with comments
-    pub walk-next : (pr : ℕ → Print) (f g : Bool → Print)
-        → walked pr f g (spanned index image w loose b s) ≡ around pr f g (gapAt index image s) (s .to) (gapAt index image t) (eqb (t .end) 0) ⨟ walked pr f g (spanned index image w loose b t)
-    unfolding walked
-    walk-next pr f g = rw (stepped s e q h, fronted index image w loose b t (through-next .ends), tested index image w loose b t)
