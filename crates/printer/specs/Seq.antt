@@ -1,0 +1,56 @@
+-- Equations of printings in a row, and what a loop has printed so far.
+use mathlib.Core.Path.{_≡_, refl}
+use mathlib.Core.List.{List, [], _++_, append-nil, append-assoc}
+use Rattle.items.specs.Item.{Item, Out, stop, ok, Print, after, next, _⨟_, none}
+use Rattle.items.specs.Machine.{Held, Prints}
+use Rattle.items.specs.Laws.{idle, _▸_, by}
+
+after-both : (xs ys : List Item) (o : Out) → after (xs ++ ys) o ≡ after xs (after ys o)
+after-both xs ys (stop zs e) = rw (append-assoc xs ys zs)
+after-both xs ys (ok zs k) = rw (append-assoc xs ys zs)
+
+next-after : (xs : List Item) (o : Out) (r : Print) → next (after xs o) r ≡ after xs (next o r)
+next-after xs (stop ys e) r = refl
+next-after xs (ok ys k) r = after-both xs ys (r k)
+
+next-both : (o : Out) (q r : Print) → next (next o q) r ≡ next o (q ⨟ r)
+unfolding _⨟_
+next-both (stop xs e) q r = refl
+next-both (ok xs k) q r = next-after xs (q k) r
+
+-- how printings in a row are grouped does not matter
+pub seq-assoc : (p q r : Print) → (p ⨟ q) ⨟ r ≡ p ⨟ (q ⨟ r)
+unfolding _⨟_
+seq-assoc p q r = λ i k. next-both (p k) q r i
+
+after-none : (o : Out) → after [] o ≡ o
+after-none (stop xs e) = refl
+after-none (ok xs k) = refl
+
+-- nothing in front
+pub none-first : (p : Print) → none ⨟ p ≡ p
+unfolding _⨟_ none
+none-first p = λ i k. after-none (p k) i
+
+next-none : (o : Out) → next o none ≡ o
+unfolding none
+next-none (stop xs e) = refl
+next-none (ok xs k) = rw (append-nil xs)
+
+-- nothing behind
+pub none-last : (p : Print) → p ⨟ none ≡ p
+unfolding _⨟_
+none-last p = λ i k. next-none (p k) i
+
+-- A loop that prints: whoever prints the rest from here has printed the whole.
+pub record Goes (whole rest : Print) (o a : Held) : Type 0 where
+  pub rest-of : {b : Held} → Prints rest a b → Prints whole o b
+
+pub goes-none : (p : Print) (o : Held) → Goes p p o o
+goes-none p o = record { rest-of = λ h. h }
+
+pub goes-more : {p r x r′ : Print} {o a b : Held} → Goes p r o a → r ≡ x ⨟ r′ → Prints x a b → Goes p r′ o b
+goes-more g e h = record { rest-of = λ k. g .rest-of (by e (h ▸ k)) }
+
+pub goes-all : {p r : Print} {o a : Held} → Goes p r o a → r ≡ none → Prints p o a
+goes-all g e = g .rest-of (by e idle)
