@@ -20,7 +20,7 @@ use Rattle.children.specs.Reading.{Child, Ending, Reading, foreign, read, more,
 use Rattle.children.specs.Gaps.{Gap, gapOf, newlinesAt, Gaps, gaps}
 use Rattle.children.specs.Gaps as G
 use Rattle.children.specs.Whole.{childAt, closedBy, preceded, readFrom, readingOf, sumsOf}
-use Rattle.children.specs.Lead.{childAfter, readingAfter}
+use Rattle.children.specs.Lead.{childAfter, readingAfter, leadAt, leads, led, Leads}
 use Rattle.children.specs.Spans.{gapAt, spanned, Spans, surveyed}
 use Rattle.printer.specs.Combine.{newlineIf}
 use Rattle.printer.specs.Print.{withComments, children, values}
@@ -272,3 +272,44 @@ module _ {index image : List ℕ} {w : Kinds} {loose : Bool} {b next : ℕ} {t :
       → valued pr (spanned index image w loose b s) ≡ pr (s .to) ⨟ valued pr (spanned index image w loose b t)
   unfolding valued
   value-next pr s e q h = rw (stepped s e q h)
+
+-- ---- the first step of a walk with a trailing list
+
+unstopped-after : (ts : List Part) (a : Gap) (x : Part) (gs : Gaps) {cs : List Child} {e : Ending} → readingAfter ts (G.Gaps.child a x gs) ≡ read cs e → unstopped gs ≡ true
+unfolding readingAfter
+unstopped-after ts a x gs {cs} {e} h = go (isNil (a .waiting)) h
+  where
+    go : (t : Bool) → cond t (readFrom (childAfter ts x) gs) (foreign (x .number)) ≡ read cs e → unstopped gs ≡ true
+    go true h = unstopped-from gs (childAfter ts x) h
+    go false h = foreign-read h
+
+module _ (index image : List ℕ) (w : Kinds) (loose : Bool) (b : ℕ) (s : Span) where
+  led-opened : s .end ≡ 0 → led index image w loose b s ≡ G.Gaps.child (leadAt index image s) (partAt index image (s .to)) (gaps w loose false true (partsFrom index image (endAt index (s .to)) b))
+  unfolding led
+  led-opened e = rw (eq-eqb (s .end) 0 e)
+
+  -- no child, no step
+  pub lead-none : (pr : ℕ → Print) (f g : Bool → Print) (ts : List Part) → (s .end ≡ 0 → ⊥) → walkedAfter pr f g ts (led index image w loose b s) ≡ none
+  unfolding walkedAfter led
+  lead-none pr f g ts h = rw (ne-eqb (s .end) 0 h) (go (eqb (s .end) 1))
+    where
+      go : (v : Bool) → walkedAfter pr f g ts (cond v (G.ending (leadAt index image s)) (G.stopped (s .to))) ≡ none
+      go true = refl
+      go false = refl
+
+module _ {index image : List ℕ} {w : Kinds} {loose : Bool} {b next : ℕ} {t : Span} where
+  -- the first span and the one behind its child
+  led-stepped : (s : Span) → s .end ≡ 0 → next ≡ endAt index (s .to) → Spans index image w loose true next b t
+      → led index image w loose b s ≡ G.Gaps.child (leadAt index image s) (partAt index image (s .to)) (spanned index image w loose b t)
+  led-stepped s e q h = led-opened index image w loose b s e ∙ rw (← q, h .read)
+
+  -- behind the first child
+  pub through-lead : (ts : List Part) {from : ℕ} {s : Span} {cs : List Child} {e : Ending} → Leads index image w loose from b s → readingAfter ts (leads w loose (partsFrom index image from b)) ≡ read cs e
+      → s .end ≡ 0 → next ≡ endAt index (s .to) → Spans index image w loose true next b t → Through index image w loose b t
+  through-lead ts {s = s} l r e q h = record { ends = unstopped-after ts (leadAt index image s) (partAt index image (s .to)) (spanned index image w loose b t) (rw (l .read, led-stepped s e q h) at r) }
+
+  -- the first step
+  pub walk-lead : (pr : ℕ → Print) (f g : Bool → Print) (ts : List Part) (s : Span) → Through index image w loose b t → s .end ≡ 0 → next ≡ endAt index (s .to) → Spans index image w loose true next b t
+      → walkedAfter pr f g ts (led index image w loose b s) ≡ around pr f g (gapOf [] ts false) (s .to) (gapAt index image t) (eqb (t .end) 0) ⨟ walked pr f g (spanned index image w loose b t)
+  unfolding walkedAfter
+  walk-lead pr f g ts s u e q h = rw (led-stepped s e q h, fronted index image w loose b t (u .ends), tested index image w loose b t)
