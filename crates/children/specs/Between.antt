@@ -38,19 +38,20 @@ or-right true e = refl
 or-right false e = e
 
 -- there is none
-none-some : {A : Type 0} (j : ℕ) → _≡_ {A = Option ℕ} none (some j) → A
+pub none-some : {A : Type 0} (j : ℕ) → _≡_ {A = Option ℕ} none (some j) → A
 none-some j e = let z : _≡_ {A = ℕ} 0 1 = cc in absurd (omega arith)
 
-module _ (w : Kinds) (j : ℕ) where
+module _ (j : ℕ) where
   -- the first has the number, or another
   pub has-here : (x : Part) (xs : List Part) → some (x .number) ≡ some j → has j (x ∷ xs) ≡ true
   unfolding has any
   has-here x xs e = let q : x .number ≡ j = cc in rw (eq-eqb (x .number) j q)
 
-  has-later : (x : Part) (xs : List Part) → has j xs ≡ true → has j (x ∷ xs) ≡ true
+  pub has-later : (x : Part) (xs : List Part) → has j xs ≡ true → has j (x ∷ xs) ≡ true
   unfolding has any
   has-later x xs e = or-right (eqb (x .number) j) e
 
+module _ (w : Kinds) (j : ℕ) where
   -- the n-th of these kinds
   pub nth-has : (n : ℕ) (xs : List Part) → numberOf (nthOf w n xs) ≡ some j → has j xs ≡ true
   unfolding nthOf
@@ -58,13 +59,13 @@ module _ (w : Kinds) (j : ℕ) where
   nth-has zero (x ∷ xs) e = go (oneOf w (x .kind)) e (nth-has zero xs)
     where
       go : (t : Bool) → numberOf (cond t (some x) (nthOf w zero xs)) ≡ some j → (numberOf (nthOf w zero xs) ≡ some j → has j xs ≡ true) → has j (x ∷ xs) ≡ true
-      go true e f = has-here x xs e
-      go false e f = has-later x xs (f e)
+      go true e f = has-here j x xs e
+      go false e f = has-later j x xs (f e)
   nth-has (suc n) (x ∷ xs) e = go (oneOf w (x .kind)) e (nth-has n xs) (nth-has (suc n) xs)
     where
       go : (t : Bool) → numberOf (cond t (nthOf w n xs) (nthOf w (suc n) xs)) ≡ some j → (numberOf (nthOf w n xs) ≡ some j → has j xs ≡ true) → (numberOf (nthOf w (suc n) xs) ≡ some j → has j xs ≡ true) → has j (x ∷ xs) ≡ true
-      go true e f g = has-later x xs (f e)
-      go false e f g = has-later x xs (g e)
+      go true e f g = has-later j x xs (f e)
+      go false e f g = has-later j x xs (g e)
 
   -- the last of these kinds
   pub last-has : (xs : List Part) → numberOf (lastOf w xs) ≡ some j → has j xs ≡ true
@@ -73,8 +74,8 @@ module _ (w : Kinds) (j : ℕ) where
   last-has (x ∷ xs) e = go (lastOf w xs) (oneOf w (x .kind)) e (last-has xs)
     where
       go : (o : Option Part) (t : Bool) → numberOf (orElse o (cond t (some x) none)) ≡ some j → (numberOf o ≡ some j → has j xs ≡ true) → has j (x ∷ xs) ≡ true
-      go (some y) t e f = has-later x xs (f e)
-      go none true e f = has-here x xs e
+      go (some y) t e f = has-later j x xs (f e)
+      go none true e f = has-here j x xs e
       go none false e f = none-some j e
 
 module _ (j : ℕ) {index text : List ℕ} {n b : ℕ} (t : Table index text n) (k : b ≤ n) where

@@ -11,7 +11,7 @@ use Rattle.tree.specs.Tree.{Part}
 use Rattle.tree.specs.declared.class.Class.the-variants as Class
 use Rattle.tree.specs.declared.class.Kinds.{Kinds}
 use Rattle.tree.specs.Class.{from, kinds, oneOf, allOf}
-use Rattle.tree.specs.Index.{endAt, partsFrom, Table}
+use Rattle.tree.specs.Index.{endAt, partsFrom, Table, Region}
 use Rattle.children.specs.Reading.{isNote}
 
 -- the kinds of trivia (64-69) and of custom errors (70-72)
@@ -81,6 +81,10 @@ pub record Stretch (index text : List ℕ) (a b : ℕ) : Type 0 where
   pub table : Table index text n
   pub upto : b ≤ n
   pub jumps : Jumps index n a b
+
+-- a stretch of nothing
+pub stretch-none : {index text : List ℕ} {a b : ℕ} → Region index text a b → Stretch index text a a
+stretch-none r = record { n = r .n; table = r .table; upto = r .begins; jumps = here }
 
 -- a stretch and the next are one: the wider of their tables holds both
 pub stretch-both : {index text : List ℕ} {a c b : ℕ} → Stretch index text a c → Stretch index text c b → Stretch index text a b

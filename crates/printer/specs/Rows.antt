@@ -1,10 +1,10 @@
 -- What the numbers in the code's tables mean: texts, wanted parts and pieces of rows.
 use mathlib.Core.Path.{_≡_}
-use mathlib.Core.Bool.{true, false, cond}
+use mathlib.Core.Bool.{Bool, true, false, cond, not, _||_}
 use mathlib.Core.List.{List, [], _∷_, _++_, flatten, map}
 use Prim.Native.Nat.{ℕ, _-_, _<_, _≤_}
 use Prim.Native.String.{String}
-use lib.Dec.{eqb}
+use lib.Dec.{leb, eqb}
 use lib.ListN.{length, getD, take, drop}
 use Rattle.text.specs.Basic.{ascii}
 use Rattle.items.specs.declared.Signal.the-variants.{NewLine, StartIndent, FinishIndent}
@@ -89,6 +89,10 @@ pieces = flatten (map Row.pieces rows)
 abbrev pub pieceAt : ℕ → Piece
 pieceAt q = getD pieces q (t "")
 
+-- an entry that prints a part or nothing names the first of its kinds, and one that prints a `+` has no text
+abbrev pub settled : Entry → Bool
+settled x = cond (eqb (x .what) 4) (not (eqb (x .word) 0) || eqb (wantAt (x .want) .place) 0) (leb (x .what) 6 || eqb (x .word) 0)
+
 -- The entry of piece q: what it means, and that its numbers are in the tables.
 pub record Coded (q : ℕ) (x : Entry) : Type 0 where
   pub piece : pieceOf x ≡ pieceAt q
@@ -97,6 +101,7 @@ pub record Coded (q : ℕ) (x : Entry) : Type 0 where
   pub unless : x .unless < 34
   pub want : x .want < 34
   pub word : x .word < 50
+  pub settles : settled x ≡ true
 
 -- The pieces of a kind's row are those of the definition.
 pub record RowOf (k : ℕ) (r : Extent) : Type 0 where

@@ -21,8 +21,6 @@ pub const EACH: u32 = 5;
 
 pub const EACH_ENDED: u32 = 6;
 
-pub const PLUS: u32 = 7;
-
 // A piece: only if one of two parts is there, where any is named, and a third is not; what it prints, of which part, with which text.
 pub struct Entry {
     pub given: u32,

@@ -1,0 +1,11 @@
+use borrow.Author.Needs.{needs}
+use Rattle.printer.proofs.look.first_in.Statement.{statement}
+use Rattle.printer.proofs.look.first_in.Tie as tie
+
+pub first-in-spec : {M : Type 1} → statement M
+first-in-spec =
+    tie.close
+    (tie.spec
+    (λ c. ?)  -- add-result
+    (λ c. search needs)  -- returns
+    )

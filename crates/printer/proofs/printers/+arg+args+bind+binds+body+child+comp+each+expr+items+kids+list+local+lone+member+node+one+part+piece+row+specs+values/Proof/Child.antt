@@ -1,0 +1,28 @@
+use Prim.Native.Nat.{ℕ}
+use borrow.Author.Needs.{needs}
+use Rattle.printer.proofs.printers.child.Reads as child
+use Rattle.printer.proofs.printers.+arg+args+bind+binds+body+child+comp+each+expr+items+kids+list+local+lone+member+node+one+part+piece+row+specs+values.Lts-child as lts
+use Rattle.printer.proofs.printers.+arg+args+bind+binds+body+child+comp+each+expr+items+kids+list+local+lone+member+node+one+part+piece+row+specs+values.Proof.Cycle.{child-at, child-claims}
+
+returns : (t : ℕ) → lts.Need-returns (child-claims t) (child-at t) child.Post
+returns t c =
+    let c1 = c .before .before .before .before in
+    let c2 = c1 .before .before .before .before .before .before .before in
+    let c3 = c2 .before .before .before .before .before .before .before in
+    let s = c3 .before .before .before .before .before .before .before in
+    c3 .print-above .ensures
+    ▸ c2 .node .ensures
+    ▸ c1 .print-behind .ensures
+
+pub child-closed : {M : Type 1} (t : ℕ) → lts.Closed (child-claims t) (child-at t) child.Post M
+child-closed t =
+    lts.spec
+    (child-claims t)
+    (child-at t)
+    child.Post
+    (λ c κs. search needs)  -- print-above-requires
+    (λ c κs. search needs)  -- node-requires
+    (λ c κs. search needs)  -- print-behind-requires
+    (λ c. returns t c .sameRecords)  -- same-length
+    (λ c. returns t c .sameTexts)  -- same-length-2
+    (returns t)  -- returns

@@ -1,0 +1,34 @@
+use Prim.Native.Nat.{ℕ}
+use borrow.Author.Needs.{needs}
+use Rattle.printer.proofs.printers.part.Reads as part
+use Rattle.printer.proofs.printers.+arg+args+bind+binds+body+child+comp+each+expr+items+kids+list+local+lone+member+node+one+part+piece+row+specs+values.Lts-part as lts
+use Rattle.printer.proofs.printers.+arg+args+bind+binds+body+child+comp+each+expr+items+kids+list+local+lone+member+node+one+part+piece+row+specs+values.Proof.Cycle.{part-at, part-claims}
+
+returns : (t : ℕ) → lts.Need-returns (part-claims t) (part-at t) part.Post
+returns t c =
+    let c1 = c .before .before .before .before in
+    let s = c1 .before .before .before .before .before .before .before .before .before .before in
+    c1 .node .ensures
+
+returns-2 : (t : ℕ) → lts.Need-returns-2 (part-claims t) (part-at t) part.Post
+returns-2 t c =
+    let c1 = c .before .before .before .before in
+    let s = c1 .before .before .before .before .before .before .before .before .before in
+    c1 .print-optional .ensures
+
+pub part-closed : {M : Type 1} (t : ℕ) → lts.Closed (part-claims t) (part-at t) part.Post M
+part-closed t =
+    lts.spec
+    (part-claims t)
+    (part-at t)
+    part.Post
+    (λ c. search needs)  -- enum-known-f
+    (λ c κs. search needs)  -- node-requires
+    (λ c. search needs)  -- enum-told
+    (λ c κs. search needs)  -- print-optional-requires
+    (λ c. returns t c .sameRecords)  -- same-length
+    (λ c. returns t c .sameTexts)  -- same-length-2
+    (returns t)  -- returns
+    (λ c. returns-2 t c .sameRecords)  -- same-length-3
+    (λ c. returns-2 t c .sameTexts)  -- same-length-4
+    (returns-2 t)  -- returns-2

@@ -1,0 +1,132 @@
+// Looking up parts of a node. Nothing here prints.
+use super::rows::Entry;
+use super::rows::PART;
+use super::rows::kinds_wanted;
+use super::rows::place_wanted;
+use children::between::Bounds;
+use children::between::bounds_between;
+use children::survey::is_nothing;
+use tree::Found;
+use tree::access::end_at;
+use tree::access::last_of;
+use tree::access::nth_of;
+use tree::access::plus_of;
+use tree::class::Class;
+use tree::class::kinds_of;
+ghost use mathlib.Core.Path.{_≡_};
+ghost use Prim.Native.Nat.{_+_, _<_};
+ghost use Rattle.text.specs.Basic.{any, orElse};
+ghost use Rattle.tree.specs.Answer.{found};
+ghost use Rattle.tree.specs.declared.class.Class.the-variants.{MemberComp, LBrace, RBrace};
+ghost use Rattle.tree.specs.Class.{nth, first, last, numberOf};
+ghost use Rattle.tree.specs.Index.{endAt};
+ghost use Rattle.children.specs.Between.{Bounded};
+ghost use Rattle.printer.specs.Layout;
+ghost use Rattle.printer.specs.Layout.{asked};
+ghost use Rattle.printer.specs.Rows.{wantAt, wanted, pieceOf};
+ghost use Rattle.printer.specs.Under.{At, partsOf};
+ghost use Rattle.printer.specs.Reads.{partFor};
+
+// The place behind element i, where its children begin.
+pub fn first_in(image: &[u8], index: &[u32], i: u32) -> u32
+    requires { ⌜ At (now image) (now index) i ⌝ }
+    ensures { λ r. ⌜ r ≡ i + 1 ⌝ }
+{
+    i + 1
+}
+
+// The first part of a class.
+pub fn first_of(image: &[u8], index: &[u32], i: u32, c: Class) -> Found
+    requires { ⌜ At (now image) (now index) i ⌝ }
+    ensures { λ r. ⌜ found r ≡ numberOf (first c (partsOf (now (index .entry)) (now (image .entry)) i)) ⌝ }
+{
+    let a = first_in(image, index, i);
+    let b = end_at(index, i);
+    nth_of(index, image, kinds_of(c), 0, a, b)
+}
+
+// The wanted part with a number.
+pub fn wanted_part(image: &[u8], index: &[u32], i: u32, w: u32) -> Found
+    requires { ⌜ At (now image) (now index) i ⌝ }
+    requires { ⌜ w < 34 ⌝ }
+    ensures { λ r. ⌜ found r ≡ numberOf (nth (wantAt w .class) (wantAt w .place) (partsOf (now (index .entry)) (now (image .entry)) i)) ⌝ }
+{
+    let a = first_in(image, index, i);
+    let b = end_at(index, i);
+    nth_of(index, image, kinds_wanted(w), place_wanted(w), a, b)
+}
+
+// Whether the wanted part with a number is there; number 0 is none.
+fn is_there(image: &[u8], index: &[u32], i: u32, w: u32) -> bool
+    requires { ⌜ At (now image) (now index) i ⌝ }
+    requires { ⌜ w < 34 ⌝ }
+    ensures { λ r. ⌜ r ≡ any (Layout.found (partsOf (now (index .entry)) (now (image .entry)) i)) (wanted w) ⌝ }
+{
+    if w == 0 {
+        return false;
+    }
+    !is_nothing(wanted_part(image, index, i, w))
+}
+
+// Whether a piece is printed.
+pub fn is_asked(image: &[u8], index: &[u32], i: u32, x: Entry) -> bool
+    requires { ⌜ At (now image) (now index) i ⌝ }
+    requires { ⌜ x .given < 34 ⌝ }
+    requires { ⌜ x .other < 34 ⌝ }
+    requires { ⌜ x .unless < 34 ⌝ }
+    ensures { λ r. ⌜ r ≡ asked (partsOf (now (index .entry)) (now (image .entry)) i) (pieceOf x) ⌝ }
+{
+    let given = is_there(image, index, i, x.given);
+    let other = is_there(image, index, i, x.other);
+    let barred = is_there(image, index, i, x.unless);
+    let always = (x.given == 0) & (x.other == 0);
+    (always | (given | other)) & !barred
+}
+
+// The part that a piece prints.
+pub fn part_of(image: &[u8], index: &[u32], i: u32, x: Entry) -> Found
+    requires { ⌜ At (now image) (now index) i ⌝ }
+    requires { ⌜ x .want < 34 ⌝ }
+    ensures { λ r. ⌜ found r ≡ numberOf (partFor x (partsOf (now (index .entry)) (now (image .entry)) i)) ⌝ }
+{
+    if x.what == PART {
+        return wanted_part(image, index, i, x.want);
+    }
+    let a = first_in(image, index, i);
+    let b = end_at(index, i);
+    plus_of(index, image, a, b)
+}
+
+// The reading between the first tokens of two classes.
+pub fn enclosed(image: &[u8], index: &[u32], i: u32, opening: Class, closing: Class) -> Bounds
+    requires { ⌜ At (now image) (now index) i ⌝ }
+    ensures { λ r. ⌜ Bounded (now (index .entry)) (now (image .entry)) (i + 1) (endAt (now (index .entry)) i) (numberOf (first opening (partsOf (now (index .entry)) (now (image .entry)) i))) (numberOf (first closing (partsOf (now (index .entry)) (now (image .entry)) i))) r ⌝ }
+{
+    let start = first_of(image, index, i, opening);
+    let end = first_of(image, index, i, closing);
+    let a = first_in(image, index, i);
+    bounds_between(index, image, start, end, a, end_at(index, i))
+}
+
+// The first if there is one, else the second.
+fn or_else(first: Found, second: Found) -> Found
+    ensures { λ r. ⌜ found r ≡ orElse (found first) (found second) ⌝ }
+{
+    match first {
+        Found::At(_) => first,
+        Found::Nothing => second,
+    }
+}
+
+// The second reading of an object comprehension, of its CompSpecs.
+pub fn spec_bounds(image: &[u8], index: &[u32], i: u32) -> Bounds
+    requires { ⌜ At (now image) (now index) i ⌝ }
+    ensures { λ r. ⌜ Bounded (now (index .entry)) (now (image .entry)) (i + 1) (endAt (now (index .entry)) i) (numberOf (orElse (last MemberComp (partsOf (now (index .entry)) (now (image .entry)) i)) (first LBrace (partsOf (now (index .entry)) (now (image .entry)) i)))) (numberOf (first RBrace (partsOf (now (index .entry)) (now (image .entry)) i))) r ⌝ }
+{
+    let a = first_in(image, index, i);
+    let b = end_at(index, i);
+    let last = last_of(index, image, kinds_of(Class::MemberComp), a, b);
+    let start = or_else(last, first_of(image, index, i, Class::LBrace));
+    let end = first_of(image, index, i, Class::RBrace);
+    bounds_between(index, image, start, end, a, b)
+}
