@@ -5,7 +5,8 @@ use Prim.Native.Nat.{ℕ, _+_, _*_}
 use Prim.Native.String.{String}
 use lib.Dec.{leb}
 use Rattle.items.specs.Item.{Test, newline, mark, group, groupEnd, block, blockEnd, runEnd, again, ifTest, elseItem, endIf, Print, _⨟_, none, say, lit, when, openRun}
-use Rattle.tree.specs.Class.{Class, Expr, Member, LBrack, RBrack, LBrace, RBrace}
+use Rattle.tree.specs.declared.class.Class.{Class}
+use Rattle.tree.specs.declared.class.Class.the-variants.{Expr, Member, LBrack, RBrack, LBrace, RBrace}
 use Rattle.comments.specs.Comments.{aboveItem, itemInline}
 use Rattle.children.specs.Comments.{comments}
 use Rattle.children.specs.Gaps.{Gap, newlinesAt}

@@ -2,7 +2,7 @@
 use mathlib.Core.Path.{_≡_}
 use mathlib.Core.Bool.{true, false, cond}
 use mathlib.Core.List.{List, [], _∷_, _++_, flatten, map}
-use Prim.Native.Nat.{ℕ, _-_, _<_, _≤_}
+use Prim.Native.Nat.{ℕ, _+_, _*_, _-_, _<_, _≤_}
 use Prim.Native.String.{String}
 use lib.Dec.{eqb}
 use lib.ListN.{length, getD, take, drop}
@@ -88,6 +88,15 @@ pieces = flatten (map Row.pieces rows)
 -- the piece with a number
 abbrev pub pieceAt : ℕ → Piece
 pieceAt q = getD pieces q (t "")
+
+-- The entry of piece q in a table of six numbers each.
+pub record EntryIn (ns : List ℕ) (q : ℕ) (x : Entry) : Type 0 where
+  pub given : x .given ≡ getD ns (q * 6) 0
+  pub other : x .other ≡ getD ns (q * 6 + 1) 0
+  pub unless : x .unless ≡ getD ns (q * 6 + 2) 0
+  pub what : x .what ≡ getD ns (q * 6 + 3) 0
+  pub want : x .want ≡ getD ns (q * 6 + 4) 0
+  pub word : x .word ≡ getD ns (q * 6 + 5) 0
 
 -- The entry of piece q: what it means, and that its numbers are in the tables.
 pub record Coded (q : ℕ) (x : Entry) : Type 0 where
