@@ -1,7 +1,7 @@
 -- The rules of the tables of rows and texts, each by one computed test over the whole table.
 use mathlib.Core.Path.{_≡_, refl, ap, sym, _∙_}
 use mathlib.Core.Bool.{Bool, true, cond, _&&_}
-use mathlib.Core.List.{List, [], _∷_, map, flatten}
+use mathlib.Core.List.{List, [], flatten}
 use Prim.Native.Nat.{ℕ, _+_, _*_, _-_, _<_, _≤_, max}
 use native.Mathlib.Omega.{arith}
 use lib.Dec.{leb, ltb}
@@ -23,21 +23,22 @@ use Rattle.printer.specs.Rows.{words, wordAt, startOf, joined, wordOrNon
 -- ---- texts
 
 -- the texts lie behind one another
-pub word-bytes : (w : ℕ) → w < 50 → take (startOf (w + 1) - startOf w) (drop (startOf w) joined) ≡ ascii (wordAt w)
+word-bytes : (w : ℕ) → w < 50 → take (startOf (w + 1) - startOf w) (drop (startOf w) joined) ≡ ascii (wordAt w)
 unfolding words flatten
 word-bytes w h =
     sym (tabled-at [] 50 (λ w. take (startOf (w + 1) - startOf w) (drop (startOf w) joined)) w h)
     ∙ tabled-at [] 50 (λ w. ascii (wordAt w)) w h
 
+-- they start one after another, up to where the last one ends
 start-test : (w : ℕ) → w < 50 → (leb (startOf w) (startOf (w + 1)) && leb (startOf (w + 1)) 506) ≡ true
 unfolding words flatten
 start-test w h = below 50 (λ w. leb (startOf w) (startOf (w + 1)) && leb (startOf (w + 1)) 506) refl w h
 
-pub start-le : (w : ℕ) → w < 50 → startOf w ≤ startOf (w + 1)
-start-le w h = leb-true _ _ (and-true (leb (startOf w) (startOf (w + 1))) _ (start-test w h) .0)
+pub start-le : (w : ℕ) {a b : ℕ} → w < 50 → a ≡ startOf w → b ≡ startOf (w + 1) → a ≤ b
+start-le w h e f = rw (e, f) (leb-true _ _ (and-true (leb (startOf w) (startOf (w + 1))) _ (start-test w h) .0))
 
-pub start-in : (w : ℕ) → w < 50 → startOf (w + 1) ≤ 506
-start-in w h = leb-true _ _ (and-true (leb (startOf w) (startOf (w + 1))) _ (start-test w h) .1)
+pub start-in : (w : ℕ) {b : ℕ} → w < 50 → b ≡ startOf (w + 1) → b ≤ 506
+start-in w h f = rw f (leb-true _ _ (and-true (leb (startOf w) (startOf (w + 1))) _ (start-test w h) .1))
 
 -- what is printed from where a text starts to where the next one starts is the text
 pub word-said : (w : ℕ) {a b : ℕ} {o r : Held} → w < 50 → a ≡ startOf w → b ≡ startOf (w + 1) → Prints (say (text (take (b - a) (drop a joined)))) o r → Prints (lit (wordAt w)) o r

@@ -4,6 +4,23 @@ use Rattle.printer.specs.Lists.{closeArguments}
 use Rattle.printer.proofs.lists.close_arguments.Statement.{statement}
 use Rattle.printer.proofs.lists.close_arguments.Tie as tie
 
+ends : tie.Need-print-ending-requires
+ends c κs =
+    let d1 = c .before .before .before .before .before .before in
+    let d2 = d1 .before .before .before .before .before .before .before in
+    let d3 = d2 .before .before .before .before .before .before .before in
+    let d4 = d3 .before .before .before .before .before .before .before in
+    d4 .before .before .before .before .before .before .before .pre .1
+
+closes : tie.Need-close-bracket-requires
+closes c κs =
+    let d1 = c .before .before .before .before .before .before in
+    let d2 = d1 .before .before .before .before .before .before .before in
+    let d3 = d2 .before .before .before .before .before .before .before in
+    let d4 = d3 .before .before .before .before .before .before .before in
+    let d5 = d4 .before .before .before .before .before .before .before in
+    d5 .before .before .before .before .before .before .before .pre .0
+
 returns : tie.Need-returns
 unfolding closeArguments
 returns c =
@@ -28,21 +45,8 @@ close-arguments-spec =
     (λ c κs. search needs)  -- print-signal-requires
     (λ c κs. search needs)  -- print-signal-requires-2
     (λ c κs. search needs)  -- repeat-body-requires
-    (λ c κs.
-    let d1 = c .before .before .before .before .before .before in
-    let d2 = d1 .before .before .before .before .before .before .before in
-    let d3 = d2 .before .before .before .before .before .before .before in
-    let d4 = d3 .before .before .before .before .before .before .before in
-    let s = d4 .before .before .before .before .before .before .before in
-    s .pre .1)  -- print-ending-requires
-    (λ c κs.
-    let d1 = c .before .before .before .before .before .before in
-    let d2 = d1 .before .before .before .before .before .before .before in
-    let d3 = d2 .before .before .before .before .before .before .before in
-    let d4 = d3 .before .before .before .before .before .before .before in
-    let d5 = d4 .before .before .before .before .before .before .before in
-    let s = d5 .before .before .before .before .before .before .before in
-    s .pre .0)  -- close-bracket-requires
+    ends  -- print-ending-requires
+    closes  -- close-bracket-requires
     (λ c. returns c .sameRecords)  -- same-length
     (λ c. returns c .sameTexts)  -- same-length-2
     returns  -- returns

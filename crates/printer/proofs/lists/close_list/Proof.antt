@@ -5,6 +5,16 @@ use Rattle.printer.specs.Lists.{closeList}
 use Rattle.printer.proofs.lists.close_list.Statement.{statement}
 use Rattle.printer.proofs.lists.close_list.Tie as tie
 
+closes : tie.Need-close-bracket-requires
+closes c κs =
+    let d1 = c .before .before .before .before .before .before in
+    let d2 = d1 .before .before .before .before .before .before .before in
+    let d3 = d2 .before .before .before .before .before .before .before in
+    let d4 = d3 .before .before .before .before .before .before .before in
+    let d5 = d4 .before .before .before .before .before .before .before in
+    let d6 = d5 .before .before .before .before .before .before .before in
+    d6 .before .before .before .before .before .before .before .pre .0
+
 returns : tie.Need-returns
 unfolding closeList words
 returns c =
@@ -33,15 +43,7 @@ close-list-spec =
     (λ c κs. search needs)  -- print-signal-requires-2
     (λ c κs. search needs)  -- print-word-requires
     (λ c κs. search needs)  -- repeat-body-requires
-    (λ c κs.
-    let d1 = c .before .before .before .before .before .before in
-    let d2 = d1 .before .before .before .before .before .before .before in
-    let d3 = d2 .before .before .before .before .before .before .before in
-    let d4 = d3 .before .before .before .before .before .before .before in
-    let d5 = d4 .before .before .before .before .before .before .before in
-    let d6 = d5 .before .before .before .before .before .before .before in
-    let s = d6 .before .before .before .before .before .before .before in
-    s .pre .0)  -- close-bracket-requires
+    closes  -- close-bracket-requires
     (λ c. returns c .sameRecords)  -- same-length
     (λ c. returns c .sameTexts)  -- same-length-2
     returns  -- returns

@@ -23,15 +23,9 @@ print-word-spec =
     (λ c κs. search needs)  -- start-of-requires
     (λ c. search needs)  -- add-start-of
     (λ c κs. search needs)  -- start-of-requires-2
-    (λ c.
-    let s2 = c .before .before in
-    omega (arith, s2 .start-of2 .ensures, s2 .before .start-of .ensures, start-le _ (s2 .before .before .before .before .before .pre)))  -- sub-print-text
-    (λ c.
-    let s2 = c .before .before in
-    omega (arith, s2 .start-of2 .ensures, s2 .before .start-of .ensures, start-le _ (s2 .before .before .before .before .before .pre)))  -- part-print-text-start
-    (λ c.
-    let s2 = c .before .before in
-    omega (arith, s2 .start-of2 .ensures, start-in _ (s2 .before .before .before .before .before .pre)))  -- part-print-text-end
+    (λ c. search (start-le, arith))  -- sub-print-text
+    (λ c. search (start-le, arith))  -- part-print-text-start
+    (λ c. search (start-in, arith))  -- part-print-text-end
     (λ c κs. search needs)  -- print-text-requires
     (λ c. returns c .sameRecords)  -- same-length
     (λ c. returns c .sameTexts)  -- same-length-2
