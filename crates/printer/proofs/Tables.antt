@@ -1,39 +1,59 @@
 -- The rules of the tables of rows and texts, each by one computed test over the whole table.
-use mathlib.Core.Path.{_≡_, refl, sym, _∙_}
-use mathlib.Core.Bool.{Bool, true, _&&_}
-use mathlib.Core.List.{List, [], _∷_, map, flatten}
-use Prim.Native.Nat.{ℕ, _+_, _*_, _-_, _<_, _≤_}
+use mathlib.Core.Path.{_≡_, refl, ap, sym, _∙_}
+use mathlib.Core.Bool.{Bool, true, cond, _&&_}
+use mathlib.Core.List.{List, [], flatten}
+use Prim.Native.Nat.{ℕ, _+_, _*_, _-_, _<_, _≤_, max}
+use native.Mathlib.Omega.{arith}
 use lib.Dec.{leb, ltb}
 use lib.ListN.{length, getD, take, drop}
-use borrow.Author.Tests.{leb-true, ltb-true}
-use Rattle.text.specs.Basic.{ascii, and-true}
+use borrow.Author.Tests.{eq-eqb, ne-eqb, leb-true, ltb-true}
+use Rattle.text.specs.Basic.{ascii, sum, and-true}
 use Rattle.text.proofs.Table.{tabled, tabled-at}
 use Rattle.text.proofs.Below.{allBelow, below}
+use Rattle.items.specs.Item.{text, none, say, lit}
+use Rattle.items.specs.Machine.{Held, Prints}
+use Rattle.items.specs.Laws.{by}
 use Rattle.tree.specs.Class.{kinds}
 use Rattle.printer.specs.declared.rows.Entry.{Entry}
 use Rattle.printer.specs.declared.rows.Extent.{Extent}
 use Rattle.printer.specs.Layout
-use Rattle.printer.specs.Layout.{layout}
-use Rattle.printer.specs.Rows.{words, wordAt, startOf, joined, wantAt, pieceOf, pieces, Coded, RowOf}
+use Rattle.printer.specs.Layout.{rows, layout}
+use Rattle.printer.specs.Rows.{words, wordAt, startOf, joined, wordOrNone, wantAt, pieceOf, settled, pieces, EntryIn, Coded, RowOf}
 
 -- ---- texts
 
 -- the texts lie behind one another
-pub word-bytes : (w : ℕ) → w < 50 → take (startOf (w + 1) - startOf w) (drop (startOf w) joined) ≡ ascii (wordAt w)
-unfolding words
+word-bytes : (w : ℕ) → w < 50 → take (startOf (w + 1) - startOf w) (drop (startOf w) joined) ≡ ascii (wordAt w)
+unfolding words flatten
 word-bytes w h =
     sym (tabled-at [] 50 (λ w. take (startOf (w + 1) - startOf w) (drop (startOf w) joined)) w h)
     ∙ tabled-at [] 50 (λ w. ascii (wordAt w)) w h
 
-start-test : (w : ℕ) → w < 50 → (leb (startOf w) (startOf (w + 1)) && leb (startOf (w + 1)) (length joined)) ≡ true
-unfolding words
-start-test w h = below 50 (λ w. leb (startOf w) (startOf (w + 1)) && leb (startOf (w + 1)) (length joined)) refl w h
+-- they start one after another, up to where the last one ends
+start-test : (w : ℕ) → w < 50 → (leb (startOf w) (startOf (w + 1)) && leb (startOf (w + 1)) 506) ≡ true
+unfolding words flatten
+start-test w h = below 50 (λ w. leb (startOf w) (startOf (w + 1)) && leb (startOf (w + 1)) 506) refl w h
 
-pub start-le : (w : ℕ) → w < 50 → startOf w ≤ startOf (w + 1)
-start-le w h = leb-true _ _ (and-true _ _ (start-test w h) .0)
+pub start-le : (w : ℕ) {a b : ℕ} → w < 50 → a ≡ startOf w → b ≡ startOf (w + 1) → a ≤ b
+start-le w h e f = rw (e, f) (leb-true _ _ (and-true (leb (startOf w) (startOf (w + 1))) _ (start-test w h) .0))
 
-pub start-in : (w : ℕ) → w < 50 → startOf (w + 1) ≤ length joined
-start-in w h = leb-true _ _ (and-true _ _ (start-test w h) .1)
+pub start-in : (w : ℕ) {b : ℕ} → w < 50 → b ≡ startOf (w + 1) → b ≤ 506
+start-in w h f = rw f (leb-true _ _ (and-true (leb (startOf w) (startOf (w + 1))) _ (start-test w h) .1))
+
+-- what is printed from where a text starts to where the next one starts is the text
+pub word-said : (w : ℕ) {a b : ℕ} {o r : Held} → w < 50 → a ≡ startOf w → b ≡ startOf (w + 1) → Prints (say (text (take (b - a) (drop a joined)))) o r → Prints (lit (wordAt w)) o r
+unfolding lit
+word-said w h e f k = by (ap (λ (s : List ℕ). say (text s)) (sym (word-bytes w h) ∙ rw (e, f))) k
+
+-- number 0 prints nothing
+pub word-none : (w : ℕ) → w ≡ 0 → wordOrNone w ≡ none
+unfolding wordOrNone
+word-none w h = rw (eq-eqb w 0 h)
+
+-- any other prints its text
+pub word-some : (w : ℕ) → (w ≡ 0 → ⊥) → wordOrNone w ≡ lit (wordAt w)
+unfolding wordOrNone
+word-some w h = rw (ne-eqb w 0 h)
 
 -- ---- wanted parts
 
@@ -47,31 +67,42 @@ want-kinds w e f g = rw (e, f, g)
 abbrev entryIn : List ℕ → ℕ → Entry
 entryIn ns q = record { given = getD ns (q * 6) 0; other = getD ns (q * 6 + 1) 0; unless = getD ns (q * 6 + 2) 0; what = getD ns (q * 6 + 3) 0; want = getD ns (q * 6 + 4) 0; word = getD ns (q * 6 + 5) 0 }
 
+-- the greatest of its numbers of wanted parts
+abbrev wantMost : Entry → ℕ
+wantMost x = max (x .given) (max (x .other) (max (x .unless) (x .want)))
+
 -- its numbers are in the other tables
 abbrev inTables : Entry → Bool
-inTables x = (ltb (x .given) 34 && ltb (x .other) 34) && ((ltb (x .unless) 34 && ltb (x .want) 34) && ltb (x .word) 50)
+inTables x = ltb (wantMost x) 34 && (ltb (x .word) 50 && settled x)
 
 -- the table's rule: its entries are the pieces of the rows in their order
-pub coded : (q : ℕ) {ns : List ℕ} {x : Entry} → q < 145 → x ≡ entryIn ns q → tabled 145 (λ q. pieceOf (entryIn ns q)) 0 ≡ pieces → allBelow 145 (λ q. inTables (entryIn ns q)) ≡ true → Coded q x
-coded q {ns} {x} h e p b =
-    let t = below 145 (λ q. inTables (entryIn ns q)) b q h in
-    let (u, v) = and-true _ _ t in
-    let (v₁, v₂) = and-true _ _ v in
-    rw e (record {
-      piece = sym (tabled-at (Layout.t "") 145 (λ q. pieceOf (entryIn ns q)) q h) ∙ rw p;
-      given = ltb-true _ 34 (and-true _ _ u .0);
-      other = ltb-true _ 34 (and-true _ _ u .1);
-      unless = ltb-true _ 34 (and-true _ _ v₁ .0);
-      want = ltb-true _ 34 (and-true _ _ v₁ .1);
-      word = ltb-true _ 50 v₂;
-    })
+pub coded : {ns : List ℕ} {q : ℕ} {x : Entry} → EntryIn ns q x → q < 145 → tabled 145 (λ q. pieceOf (entryIn ns q)) 0 ≡ pieces → allBelow 145 (λ q. inTables (entryIn ns q)) ≡ true → Coded q x
+coded {ns} {q} {x} e h p b =
+    let y = entryIn ns q in
+    let (u, r) = and-true (ltb (wantMost y) 34) (ltb (y .word) 50 && settled y) (below 145 (λ q. inTables (entryIn ns q)) b q h) in
+    let (v, g) = and-true (ltb (y .word) 50) (settled y) r in
+    let most = ltb-true (wantMost y) 34 u in
+    let last = ltb-true (y .word) 50 v in
+    record {
+      piece = rw (e .given, e .other, e .unless, e .what, e .want, e .word) (sym (tabled-at (Layout.t "") 145 (λ q. pieceOf (entryIn ns q)) q h) ∙ ap (λ (l : List Layout.Piece). getD l q (Layout.t "")) p);
+      given = omega arith;
+      other = omega arith;
+      unless = omega arith;
+      want = omega arith;
+      word = omega arith;
+      settles = rw (e .what, e .want, e .word) g;
+    }
 
 -- ---- rows
 
--- the table's rule: from each kind's first piece up to the next one's stand the pieces of its row
-pub row-pieces : (k : ℕ) {ns : List ℕ} {r : Extent} → k < 64 → r .start ≡ getD ns k 0 → r .end ≡ getD ns (k + 1) 0
-    → tabled 64 (λ k. take (getD ns (k + 1) 0 - getD ns k 0) (drop (getD ns k 0) pieces)) 0 ≡ tabled 64 layout 0 → allBelow 64 (λ k. leb (getD ns (k + 1) 0) 145) ≡ true → RowOf k r
-row-pieces k {ns} {r} h e f p b = record {
-  pieces-of = rw (e, f) (sym (tabled-at [] 64 (λ k. take (getD ns (k + 1) 0 - getD ns k 0) (drop (getD ns k 0) pieces)) k h) ∙ rw p (tabled-at [] 64 layout k h));
-  within = rw f (leb-true _ 145 (below 64 (λ k. leb (getD ns (k + 1) 0) 145) b k h));
+-- how many pieces stand in the rows of smaller kinds
+abbrev pub rowStart : ℕ → ℕ
+rowStart k = sum (λ (r : Layout.Row). cond (ltb (r .kind) k) (length (r .pieces)) 0) rows
+
+-- from there up to where the next kind's row starts stand the pieces of its row
+pub row-pieces : (k : ℕ) {r : Extent} → k < 64 → r .start ≡ rowStart k → r .end ≡ rowStart (k + 1) → RowOf k r
+unfolding rows Layout.pick pieces flatten sum
+row-pieces k {r} h e f = record {
+  pieces-of = rw (e, f) (sym (tabled-at [] 64 (λ k. take (rowStart (k + 1) - rowStart k) (drop (rowStart k) pieces)) k h) ∙ tabled-at [] 64 layout k h);
+  within = rw f (leb-true _ 145 (below 64 (λ k. leb (rowStart (k + 1)) 145) refl k h));
 }

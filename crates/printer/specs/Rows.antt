@@ -2,7 +2,7 @@
 use mathlib.Core.Path.{_≡_}
 use mathlib.Core.Bool.{Bool, true, false, cond, not, _||_}
 use mathlib.Core.List.{List, [], _∷_, _++_, flatten, map}
-use Prim.Native.Nat.{ℕ, _-_, _<_, _≤_}
+use Prim.Native.Nat.{ℕ, _+_, _*_, _-_, _<_, _≤_}
 use Prim.Native.String.{String}
 use lib.Dec.{leb, eqb}
 use lib.ListN.{length, getD, take, drop}
@@ -92,6 +92,15 @@ pieceAt q = getD pieces q (t "")
 -- an entry that prints a part or nothing names the first of its kinds, and one that prints a `+` has no text
 abbrev pub settled : Entry → Bool
 settled x = cond (eqb (x .what) 4) (not (eqb (x .word) 0) || eqb (wantAt (x .want) .place) 0) (leb (x .what) 6 || eqb (x .word) 0)
+
+-- The entry of piece q in a table of six numbers each.
+pub record EntryIn (ns : List ℕ) (q : ℕ) (x : Entry) : Type 0 where
+  pub given : x .given ≡ getD ns (q * 6) 0
+  pub other : x .other ≡ getD ns (q * 6 + 1) 0
+  pub unless : x .unless ≡ getD ns (q * 6 + 2) 0
+  pub what : x .what ≡ getD ns (q * 6 + 3) 0
+  pub want : x .want ≡ getD ns (q * 6 + 4) 0
+  pub word : x .word ≡ getD ns (q * 6 + 5) 0
 
 -- The entry of piece q: what it means, and that its numbers are in the tables.
 pub record Coded (q : ℕ) (x : Entry) : Type 0 where

@@ -3,7 +3,7 @@ use tree::class::Kinds;
 ghost use mathlib.Core.Path.{_≡_};
 ghost use Prim.Native.Nat.{_<_};
 ghost use Rattle.tree.specs.Class.{kinds};
-ghost use Rattle.printer.specs.Rows.{wantAt, Coded, RowOf};
+ghost use Rattle.printer.specs.Rows.{wantAt, EntryIn, Coded, RowOf};
 
 // What a piece prints: a text; a newline; an indent; an outdent; a part, or the text if it is missing; all parts of a class;
 // the same, each before a comma and a newline; the `+` of a field.
@@ -1151,20 +1151,29 @@ pub fn row_of(k: u32) -> Extent
     }
 }
 
+// The piece with a number in a table of pieces.
+fn entry_in(table: &[u8; 870], q: u32) -> Entry
+    requires { ⌜ q < 145 ⌝ }
+    ensures { λ r. ⌜ EntryIn (now (table .entry)) q r ⌝ }
+{
+    let at = (q as usize) * SIZE;
+    Entry {
+        given: wide(table[at]),
+        other: wide(table[at + 1]),
+        unless: wide(table[at + 2]),
+        what: wide(table[at + 3]),
+        want: wide(table[at + 4]),
+        word: wide(table[at + 5]),
+    }
+}
+
 // The piece with a number.
 pub fn entry_at(q: u32) -> Entry
     requires { ⌜ q < 145 ⌝ }
     ensures { λ r. ⌜ Coded q r ⌝ }
 {
-    let at = (q as usize) * SIZE;
-    Entry {
-        given: wide(PIECES[at]),
-        other: wide(PIECES[at + 1]),
-        unless: wide(PIECES[at + 2]),
-        what: wide(PIECES[at + 3]),
-        want: wide(PIECES[at + 4]),
-        word: wide(PIECES[at + 5]),
-    }
+    let table = PIECES;
+    entry_in(&table, q)
 }
 
 // The kinds of a wanted part.

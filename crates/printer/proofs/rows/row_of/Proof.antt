@@ -1,17 +1,22 @@
 use borrow.Author.Needs.{needs}
-use mathlib.Core.Path.{refl}
-use Rattle.printer.specs.Layout.{rows, pick}
-use Rattle.printer.specs.Rows.{pieces}
-use Rattle.printer.proofs.Tables.{row-pieces}
+use mathlib.Core.Path.{_∙_}
+use Prim.Native.Nat.{_+_}
+use native.Mathlib.Omega.{arith}
+use Rattle.text.specs.Basic.{sum}
+use Rattle.text.proofs.Table.{tabled-at}
+use Rattle.printer.specs.Layout.{rows}
+use Rattle.printer.proofs.Tables.{rowStart, row-pieces}
 use Rattle.printer.proofs.rows.row_of.Statement.{statement}
 use Rattle.printer.proofs.rows.row_of.Tie as tie
 
 returns : tie.Need-returns
-unfolding rows pick pieces
+unfolding rows sum
 returns c =
-    let c2 = c .before in
-    let s = c2 .before in
-    row-pieces (s .args .k) (s .pre) (c2 .wide .ensures) (c .wide2 .ensures) refl refl
+    let c1 = c .before in
+    let s = c1 .before in
+    row-pieces (s .args .k) (s .pre)
+    (c1 .wide .ensures ∙ tabled-at 0 65 rowStart (s .args .k) (omega (arith, s .pre)))
+    (c .wide2 .ensures ∙ tabled-at 0 65 rowStart (s .args .k + 1) (omega (arith, s .pre)))
 
 pub row-of-spec : {M : Type 1} → statement M
 row-of-spec =

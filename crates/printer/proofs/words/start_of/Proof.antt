@@ -1,18 +1,20 @@
 use borrow.Author.Needs.{needs}
 use mathlib.Core.Path.{_∙_}
+use mathlib.Core.List.{flatten}
 use Rattle.text.proofs.Table.{tabled-at}
 use Rattle.printer.specs.Rows.{words, startOf}
 use Rattle.printer.proofs.words.start_of.Statement.{statement}
 use Rattle.printer.proofs.words.start_of.Tie as tie
 
 returns : tie.Need-returns
-unfolding words
+unfolding words flatten
 returns c = c .wide .ensures ∙ tabled-at 0 51 startOf _ (c .before .pre)
 
 pub start-of-spec : {M : Type 1} → statement M
 start-of-spec =
     tie.close
     (tie.spec
+    (λ c. search needs)  -- mul-wide
     (λ c. search needs)  -- array-read-wide
     (λ c κs. search needs)  -- wide-requires
     returns  -- returns

@@ -1,0 +1,73 @@
+-- Printings that a test, a kind of list or a number picks.
+use mathlib.Core.Path.{_≡_, ap}
+use mathlib.Core.Bool.{Bool, true, false}
+use mathlib.Core.List.{List}
+use Prim.Native.Nat.{ℕ, _*_}
+use Rattle.items.specs.Item.{Test, always, lines, mark, Print, say, lit, when}
+use Rattle.items.specs.Machine.{Held, Prints}
+use Rattle.items.specs.Laws.{idle}
+use Rattle.items.specs.declared.Signal.{Signal}
+use Rattle.items.specs.Signal.{signalItem}
+use Rattle.tree.specs.Tree.{Part}
+use Rattle.printer.specs.declared.lists.Style.{Style}
+use Rattle.printer.specs.Combine.{onlyIf, comma, testOf}
+use Rattle.printer.specs.Layout.{signal}
+use Rattle.printer.specs.Print.{what}
+use Rattle.printer.specs.Rows.{wordAt, whatOf}
+use Rattle.printer.specs.Lists.{onLine, behindIt}
+
+-- ---- tests
+
+pub when-yes : (b : Bool) (p : Print) {o a : Held} → b ≡ true → Prints p o a → Prints (when b p) o a
+unfolding when
+when-yes b p e h = rw e h
+
+pub when-no : (b : Bool) (p : Print) {o : Held} → b ≡ false → Prints (when b p) o o
+unfolding when
+when-no b p e = rw e idle
+
+-- by another test with the same answer
+pub when-as : (p : Print) {b d : Bool} {o a : Held} → d ≡ b → Prints (when d p) o a → Prints (when b p) o a
+when-as p e h = rw e at h
+
+pub comma-more : (b : Bool) (t : Test) {o a : Held} → b ≡ true → Prints (lit ",") o a → Prints (comma b t) o a
+unfolding comma
+comma-more b t e h = rw e h
+
+pub comma-last : (b : Bool) (t : Test) {o a : Held} → b ≡ false → Prints (onlyIf t (lit ",")) o a → Prints (comma b t) o a
+unfolding comma
+comma-last b t e h = rw e h
+
+-- ---- lists
+
+pub on-line-of : (t : Test) (m : Bool) {x y : Style} {o a : Held} → x ≡ y → Prints (onLine y t m) o a → Prints (onLine x t m) o a
+on-line-of t m e h = rw e h
+
+pub behind-of : (t : Test) (m : Bool) {x y : Style} {o a : Held} → x ≡ y → Prints (behindIt y t m) o a → Prints (behindIt x t m) o a
+behind-of t m e h = rw e h
+
+pub test-many : (b : Bool) (k : ℕ) → b ≡ true → always ≡ testOf b k
+unfolding testOf
+test-many b k e = rw e
+
+pub test-lines : (b : Bool) (k : ℕ) {m : ℕ} → b ≡ false → m ≡ 2 * k → lines m ≡ testOf b k
+unfolding testOf
+test-lines b k e f = rw (e, f)
+
+-- a mark by another name
+pub mark-as : {m n : ℕ} {o a : Held} → m ≡ n → Prints (say (mark m)) o a → Prints (say (mark n)) o a
+mark-as e h = rw e at h
+
+-- ---- pieces
+
+pub what-of : (j k : ℕ) → k ≡ j → (w s : ℕ) → whatOf k w s ≡ whatOf j w s
+what-of j k e w s = ap (λ (k : ℕ). whatOf k w s) e
+
+module _ (pr : ℕ → Print) (ps : List Part) where
+  pub fixed-text : (w s : ℕ) {k : ℕ} {o a : Held} → k ≡ 0 → Prints (lit (wordAt s)) o a → Prints (what pr ps (whatOf k w s)) o a
+  unfolding what whatOf
+  fixed-text w s e h = rw e h
+
+  pub fixed-signal : (k w s : ℕ) {x : Signal} {o a : Held} → ((w s : ℕ) → whatOf k w s ≡ signal x) → Prints (say (signalItem x)) o a → Prints (what pr ps (whatOf k w s)) o a
+  unfolding what
+  fixed-signal k w s e h = rw (e w s) h

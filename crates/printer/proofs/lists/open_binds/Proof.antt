@@ -1,0 +1,25 @@
+use borrow.Author.Needs.{needs}
+use Rattle.items.specs.Laws.{_▸_}
+use Rattle.printer.specs.Rows.{words}
+use Rattle.printer.proofs.lists.open_binds.Statement.{statement}
+use Rattle.printer.proofs.lists.open_binds.Tie as tie
+
+returns : tie.Need-returns
+unfolding words
+returns c =
+    let c1 = c .before .before .before .before in
+    let c2 = c1 .before .before .before .before .before .before .before in
+    let c3 = c2 .before .before .before .before .before .before .before in
+    c3 .print-word .ensures ▸ c2 .print-signal .ensures ▸ c1 .print-signal2 .ensures
+
+pub open-binds-spec : {M : Type 1} → statement M
+open-binds-spec =
+    tie.close
+    (tie.spec
+    (λ c κs. search needs)  -- print-word-requires
+    (λ c κs. search needs)  -- print-signal-requires
+    (λ c κs. search needs)  -- print-signal-requires-2
+    (λ c. returns c .sameRecords)  -- same-length
+    (λ c. returns c .sameTexts)  -- same-length-2
+    returns  -- returns
+    )
