@@ -126,28 +126,6 @@ piece-part pr ps x t h g = go (eqb (x .what) 4) refl (eqb (x .word) 0) refl t (o
 
 -- ---- parts that were found
 
-plus-has : (j : ℕ) (xs : List Part) → numberOf (plusOf xs) ≡ some j → has j xs ≡ true
-unfolding plusOf
-plus-has j [] e = none-some j e
-plus-has j (x ∷ xs) e = go (isPlus x) e (plus-has j xs)
-  where
-    go : (t : Bool) → numberOf (cond t (some x) (plusOf xs)) ≡ some j → (numberOf (plusOf xs) ≡ some j → has j xs ≡ true) → has j (x ∷ xs) ≡ true
-    go true e f = has-here j x xs e
-    go false e f = has-later j x xs (f e)
-
--- the part of an entry is one of the node's
-pub part-has : (x : Entry) (ps : List Part) {n : Option ℕ} → n ≡ numberOf (partFor x ps) → Has ps n
-unfolding partFor
-part-has x ps e = record { part = λ j h. go (eqb (x .what) 4) j (sym e ∙ h) }
-  where
-    go : (b : Bool) (j : ℕ) → numberOf (cond b (nth (wantAt (x .want) .class) (wantAt (x .want) .place) ps) (plusOf ps)) ≡ some j → has j ps ≡ true
-    go true j h = nth-has (kinds (wantAt (x .want) .class)) j (wantAt (x .want) .place) ps h
-    go false j h = plus-has j ps h
-
--- the first part of a class is one of the node's
-pub first-has : (c : Class) (ps : List Part) {n : Option ℕ} → n ≡ numberOf (nth c 0 ps) → Has ps n
-first-has c ps e = record { part = λ j h. nth-has (kinds c) j 0 ps (sym e ∙ h) }
-
 -- it prints what the child with its number prints
 pub number-found : {image index : List ℕ} {i j : ℕ} (p : Print) {n : Option ℕ} → n ≡ some j → Kid image index i j → numberOr (under image i) p n ≡ printOf image j
 unfolding numberOr

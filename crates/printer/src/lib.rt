@@ -5,3 +5,112 @@ mod pieces;
 mod printers;
 mod rows;
 mod words;
+
+use children::around::Notes;
+use children::around::trivia_after;
+use children::around::trivia_before;
+use children::print::print_notes;
+use comments::CommentLocation;
+use items::Element;
+use items::Printed;
+use items::Signal;
+use items::print_signal;
+use items::stop_at;
+use look::first_in;
+use look::first_of;
+use printers::part;
+use tree::Found;
+use tree::access::end_at;
+use tree::class::Class;
+ghost use Rattle.items.specs.Item.{newline, _⨟_, say, lit};
+ghost use Rattle.items.specs.Machine.{held, Prints};
+ghost use Rattle.comments.specs.Comments.{aboveItem, endOfItems};
+ghost use Rattle.tree.specs.Tree.{treeOf};
+ghost use Rattle.tree.specs.Answer.{found};
+ghost use Rattle.tree.specs.Class.{allOf};
+ghost use Rattle.tree.specs.Index.{Indexed, Region, partsFrom};
+ghost use Rattle.children.specs.Comments.{comments};
+ghost use Rattle.children.specs.Stretch.{notes};
+ghost use Rattle.printer.specs.Print.{sourceFile};
+ghost use Rattle.printer.specs.Under.{At, under, partsOf};
+ghost use Rattle.printer.specs.Reads.{numberOr, Has};
+
+// The root of the tree.
+const ROOT: u32 = 0;
+
+// SourceFile::print: the expression with the comments around it.
+pub fn print_source(
+    records: &mut [u32],
+    texts: &mut [u8],
+    image: &[u8],
+    index: &[u32],
+    p: Printed,
+) -> Printed
+    requires { ⌜ Indexed (now image) (now index) ⌝ }
+    ensures { λ r. ⌜ Prints (sourceFile (treeOf (now (image .entry)))) (held (now (records .entry)) (now (texts .entry)) p) (held (now (records .exit)) (now (texts .exit)) r) ⌝ }
+{
+    let e = first_of(image, index, ROOT, Class::Expr);
+    let a = first_in(image, index, ROOT);
+    let b = end_at(index, ROOT);
+    let before = trivia_before(index, image, e, a, b);
+    let after = trivia_after(index, image, e, a, b);
+    let f = before.foreign;
+    if let Found::At(x) = f {
+        return stop_at(Element(x.0 as usize), p);
+    }
+    let g = after.foreign;
+    if let Found::At(x) = g {
+        return stop_at(Element(x.0 as usize), p);
+    }
+    print_whole(records, texts, image, index, e, before, after, p)
+}
+
+// The comments before the expression, the expression, and the comments behind it.
+fn print_whole(
+    records: &mut [u32],
+    texts: &mut [u8],
+    image: &[u8],
+    index: &[u32],
+    e: Found,
+    before: Notes,
+    after: Notes,
+    p: Printed,
+) -> Printed
+    requires { ⌜ At (now image) (now index) 0 ⌝ }
+    requires { ⌜ Has (partsOf (now index) (now image) 0) (found e) ⌝ }
+    requires { ⌜ Region (now index) (now image) (before .from) (before .to) ⌝ }
+    requires { ⌜ Region (now index) (now image) (after .from) (after .to) ⌝ }
+    ensures { λ r. ⌜ Prints ((comments (allOf notes (partsFrom (now (index .entry)) (now (image .entry)) (before .from) (before .to))) aboveItem) ⨟ numberOr (under (now (image .entry)) 0) (lit "/*missing Expr*/") (found e) ⨟ say newline ⨟ (comments (allOf notes (partsFrom (now (index .entry)) (now (image .entry)) (after .from) (after .to))) endOfItems)) (held (now (records .entry)) (now (texts .entry)) p) (held (now (records .exit)) (now (texts .exit)) r) ⌝ }
+{
+    let q = print_notes(
+        records,
+        texts,
+        index,
+        image,
+        before.from,
+        before.to,
+        CommentLocation::AboveItem,
+        p,
+    );
+    let r = part(
+        records,
+        texts,
+        image,
+        index,
+        ROOT,
+        e,
+        words::MISSING_EXPR,
+        q,
+    );
+    let s = print_signal(records, texts, Signal::NewLine, r);
+    print_notes(
+        records,
+        texts,
+        index,
+        image,
+        after.from,
+        after.to,
+        CommentLocation::EndOfItems,
+        s,
+    )
+}

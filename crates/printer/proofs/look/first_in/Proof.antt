@@ -1,4 +1,5 @@
 use borrow.Author.Needs.{needs}
+use Rattle.printer.specs.Under.{at-next}
 use Rattle.printer.proofs.look.first_in.Statement.{statement}
 use Rattle.printer.proofs.look.first_in.Tie as tie
 
@@ -6,6 +7,6 @@ pub first-in-spec : {M : Type 1} → statement M
 first-in-spec =
     tie.close
     (tie.spec
-    (λ c. ?)  -- add-result
+    (λ c. at-next (c .pre))  -- add-result
     (λ c. search needs)  -- returns
     )

@@ -1,16 +1,10 @@
 use borrow.Author.Needs.{needs}
+use Rattle.printer.proofs.Looking.{asked-by}
 use Rattle.printer.proofs.look.is_asked.Statement.{statement}
 use Rattle.printer.proofs.look.is_asked.Tie as tie
 
 returns : tie.Need-returns
-returns c =
-    let c1 = c .before .before in
-    let c2 = c1 .before in
-    let c3 = c2 .before in
-    let s = c3 .before .before .before in
-    c3 .is-there .ensures
-    ▸ c2 .is-there2 .ensures
-    ▸ c1 .is-there3 .ensures
+returns c = search asked-by
 
 pub is-asked-spec : {M : Type 1} → statement M
 is-asked-spec =

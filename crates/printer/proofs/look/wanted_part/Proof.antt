@@ -1,20 +1,8 @@
 use borrow.Author.Needs.{needs}
+use Rattle.printer.specs.Under.{at-region}
+use Rattle.printer.proofs.Looking.{nth-found}
 use Rattle.printer.proofs.look.wanted_part.Statement.{statement}
 use Rattle.printer.proofs.look.wanted_part.Tie as tie
-
-returns : tie.Need-returns
-returns c =
-    let c1 = c in
-    let c2 = c1 .before in
-    let c3 = c2 .before in
-    let c4 = c3 .before in
-    let c5 = c4 .before in
-    let s = c5 .before .before .before in
-    c5 .first-in .ensures
-    ▸ c4 .end-at .ensures
-    ▸ c3 .kinds-wanted .ensures
-    ▸ c2 .place-wanted .ensures
-    ▸ c1 .nth-of .ensures
 
 pub wanted-part-spec : {M : Type 1} → statement M
 wanted-part-spec =
@@ -24,6 +12,6 @@ wanted-part-spec =
     (λ c κs. search needs)  -- end-at-requires
     (λ c κs. search needs)  -- kinds-wanted-requires
     (λ c κs. search needs)  -- place-wanted-requires
-    (λ c κs. ?)  -- nth-of-requires
-    returns  -- returns
+    (λ c κs. search at-region)  -- nth-of-requires
+    (λ c. search nth-found)  -- returns
     )

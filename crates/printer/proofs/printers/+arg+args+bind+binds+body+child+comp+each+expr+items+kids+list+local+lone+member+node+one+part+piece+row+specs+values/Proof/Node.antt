@@ -91,7 +91,7 @@ returns-11 t c =
     let c3 = c2 .before .before .before in
     let s = c3 .before .before .before .before .before in
     c3 .kind-at .ensures
-    ▸ ⊎-elim (λ w. met  (by (? (w .0)) (idle))) (λ w. met  (by (? (w .0)) (idle))) (c2 .if2 .came)
+    ▸ ⊎-elim (λ w. met (by (? (w .0)) (idle))) (λ w. met (by (? (w .0)) (idle))) (c2 .if2 .came)
     ▸ c1 .row .ensures
 
 pub node-closed : {M : Type 1} (t : ℕ) → lts.Closed (node-claims t) (node-at t) node.Post M
