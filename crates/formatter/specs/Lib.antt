@@ -1,0 +1,3 @@
+-- What the call from a tree image to print items promises: the plain printing, bodies put back, bounds, the answer and the lent buffers.
+pub mod PutBack
+pub mod Plain
