@@ -9,7 +9,8 @@ use lib.ListN.{length, length-append, drop, length-take, length-drop}
 use borrow.Author.Tests.{lt-ltb, eqb-true, leb-true}
 use Rattle.text.specs.Basic.{sum}
 use Rattle.items.specs.Item.{Item, itemsOf}
-use Rattle.tree.specs.Tree.{Element, elementOf, elements, le32, Forest, nil, tree, forest, choose, texts}
+use Rattle.tree.specs.Tree.{Element, elementOf, elements, le32, Forest, nil, tree, forest, choose, texts, countN, countB, textsOf, elementsOf, treeOf}
+use Rattle.tree.specs.Accepted.{Accepted}
 use Rattle.comments.specs.Comments.{comment}
 use Rattle.items.specs.Records.{bytesOf, bytes}
 use Rattle.comments.specs.Made.{excess, comment-made}
@@ -22,11 +23,15 @@ rising-go true b e r s = end
 rising-go false true e r s = node {n = e .number} {e = e} (omega arith) r s
 rising-go false false e r s = rising-le (omega arith) s
 
-pub rising : (c n m : ℕ) (bs ts : List ℕ) → Rising n (forest m (elements c n bs ts))
+rising-from : (c n m : ℕ) (bs ts : List ℕ) → Rising n (forest m (elements c n bs ts))
 unfolding elements forest
-rising zero n m bs ts = end
-rising (suc c) n m bs ts = let e = elementOf n bs ts in
-    rising-go (ltb (e .level) m) (eqb (e .level) m) e (rising c (suc n) (suc m) _ _) (rising c (suc n) m _ _)
+rising-from zero n m bs ts = end
+rising-from (suc c) n m bs ts = let e = elementOf n bs ts in
+    rising-go (ltb (e .level) m) (eqb (e .level) m) e (rising-from c (suc n) (suc m) _ _) (rising-from c (suc n) m _ _)
+
+rising : (image : List ℕ) → Rising 0 (treeOf image)
+unfolding elementsOf
+rising image = rising-from (countN image) 0 0 (drop 4 image) (textsOf image)
 
 -- no element stands in a forest twice: the weight of the forests at k levels from m, where u is the unit
 module _ (u : ℕ) where
@@ -78,28 +83,30 @@ module _ (u : ℕ) where
   elements-own (suc c) n bs ts = let l = le32 bs 4 in
       omega (arith, elements-own c (suc n) (drop 8 bs) (drop l ts), length-take l ts, length-drop l ts)
 
-  image-weight : (c : ℕ) (bs ts : List ℕ) → 24 * (u * count (forest 0 (elements c 0 bs ts))) + 4 * length (texts (forest 0 (elements c 0 bs ts))) ≤ 24 * (u * c) + 4 * length ts
-  unfolding levels weight
-  image-weight c bs ts = omega (arith, levels-le (elements c 0 bs ts) 0 1, elements-own c 0 bs ts)
+  image-weight : {image : List ℕ} → Accepted image → 24 * (u * count (treeOf image)) + 4 * length (texts (treeOf image)) ≤ 24 * (u * countN image) + 4 * countB image
+  unfolding levels weight elementsOf textsOf
+  image-weight {image} a =
+      let ts = textsOf image in
+      omega (arith, levels-le (elementsOf image) 0 1, elements-own (countN image) 0 (drop 4 image) ts, length-drop (8 + 8 * countN image) image, a .long)
 
 sum-one : (xs : List Item) → sum (λ x. 1) xs ≡ length xs
 unfolding sum
 sum-one [] = refl
 sum-one (x ∷ xs) = omega (arith, sum-one xs)
 
--- 'records': at most 24 for each of c elements, and 4 for each byte of their texts, also where the printing stops
-pub records-bound : (c : ℕ) (bs ts : List ℕ) (k : ℕ) → length (itemsOf (sourceFile (forest 0 (elements c 0 bs ts)) k)) ≤ 24 * c + 4 * length ts
-records-bound c bs ts k =
-    let b = bound (λ x. 1) 1 (λ x e. omega arith) (λ s. omega arith) (λ j s loc. omega (arith, sum-one (comment j s loc), comment-made j s loc .size)) (rising c 0 0 bs ts) k in
-    omega (arith, b, sum-one (itemsOf (sourceFile (forest 0 (elements c 0 bs ts)) k)), image-weight 1 c bs ts)
+-- the records of an image: at most 24 for each of its elements and 4 for each byte of its texts, also where the printing stops
+pub records-bound : {image : List ℕ} → Accepted image → length (itemsOf (sourceFile (treeOf image) 0)) ≤ 24 * countN image + 4 * countB image
+records-bound {image} a =
+    let b = bound (λ x. 1) 1 (λ x e. omega arith) (λ s. omega arith) (λ j s loc. omega (arith, sum-one (comment j s loc), comment-made j s loc .size)) (rising image) 0 in
+    omega (arith, b, sum-one (itemsOf (sourceFile (treeOf image) 0)), image-weight 1 a)
 
 bytes-excess : (xs : List Item) → length (bytes xs) ≤ 38 * length xs + sum excess xs
 unfolding bytes sum
 bytes-excess [] = omega arith
 bytes-excess (x ∷ xs) = omega (arith, bytes-excess xs, length-append (bytesOf x) (bytes xs))
 
--- 'texts': at most 38 bytes for each record, and 4 for each byte of the tree's texts, also where the printing stops
-pub texts-bound : (c : ℕ) (bs ts : List ℕ) (k : ℕ) → let xs = itemsOf (sourceFile (forest 0 (elements c 0 bs ts)) k) in length (bytes xs) ≤ 38 * length xs + 4 * length ts
-texts-bound c bs ts k =
-    let b = bound excess 0 (λ x e. omega (arith, leb-true (length (bytesOf x)) 38 e)) (λ s. omega arith) (λ j s loc. omega (arith, comment-made j s loc .long)) (rising c 0 0 bs ts) k in
-    omega (arith, b, bytes-excess (itemsOf (sourceFile (forest 0 (elements c 0 bs ts)) k)), image-weight 0 c bs ts)
+-- the bytes of their texts: at most 38 for each record, and 4 for each byte of the image's texts, also where the printing stops
+pub texts-bound : {image : List ℕ} → Accepted image → let xs = itemsOf (sourceFile (treeOf image) 0) in length (bytes xs) ≤ 38 * length xs + 4 * countB image
+texts-bound {image} a =
+    let b = bound excess 0 (λ x e. omega (arith, leb-true (length (bytesOf x)) 38 e)) (λ s. omega arith) (λ j s loc. omega (arith, comment-made j s loc .long)) (rising image) 0 in
+    omega (arith, b, bytes-excess (itemsOf (sourceFile (treeOf image) 0)), image-weight 0 a)

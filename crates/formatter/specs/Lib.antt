@@ -8,3 +8,4 @@ pub mod Weights
 pub mod Columns
 pub mod Bound
 pub mod Counted
+pub mod Fitted
