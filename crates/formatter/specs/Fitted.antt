@@ -5,7 +5,7 @@ use native.Mathlib.Omega.{arith}
 use lib.ListN.{length, length-append}
 use Rattle.text.specs.Basic.{sum, All, ∅, _▹_}
 use Rattle.items.specs.Item.{always, lines, Item, text, newline, spaceOrNewline, tab, indent, outdent, mark, group, groupEnd, block, blockEnd, run, runEnd, again, ifTest, elseItem, endIf, itemsOf}
-use Rattle.items.specs.Role.{Role, stays, marks, opens, closes, repeats, role, isRun, isMark, runsOf, marksOf}
+use Rattle.items.specs.Role.{Role, stays, marks, opens, closes, repeats, role, isRun, isMark}
 use Rattle.items.specs.Records.{bytesOf, bytes}
 use Rattle.items.specs.Fitting.{Short, Fits}
 use Rattle.tree.specs.Tree.{treeOf}

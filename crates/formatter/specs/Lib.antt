@@ -9,3 +9,5 @@ pub mod Columns
 pub mod Bound
 pub mod Counted
 pub mod Fitted
+pub mod Answer
+pub mod Answered
