@@ -11,3 +11,4 @@ pub mod Counted
 pub mod Fitted
 pub mod Answer
 pub mod Answered
+pub mod Examples
