@@ -1,4 +1,4 @@
--- The printing with its bodies put back is the plain printing.
+-- The printing with its bodies put back is the plain printing, and the numbers that its items name are small.
 use mathlib.Core.Path.{_≡_, refl, ap}
 use mathlib.Core.Bool.{Bool, true, false, cond, not, _||_}
 use mathlib.Core.Option.{Option, none as nothing, some}
@@ -13,9 +13,8 @@ use Rattle.items.specs.Item.{Test, lines, Item, text, newline, spaceOrNewline, 
 use Rattle.items.specs.Role.{stays, role, isRun, isMark, runsOf, marksOf}
 use Rattle.items.specs.Signal.{signalItem}
 use Rattle.items.specs.declared.Signal.{Signal}
-use Rattle.formatter.specs.Numbers.{numberIn, signal-sign}
-use Rattle.formatter.specs.PutBack.{Body, State, bodyOf, emit, opened, closed, put, puts, nothingYet, putBack}
 use Rattle.comments.specs.Comments.{Location, aboveItem, itemInline, endOfItems}
+use Rattle.comments.specs.Every.{comment-all}
 use Rattle.tree.specs.Tree.{Forest, nil, tree, Part, texts, parts}
 use Rattle.tree.specs.Class.{is, nth, first, plusOf}
 use Rattle.tree.specs.declared.class.Class.{Class}
@@ -25,8 +24,9 @@ use Rattle.children.specs.Comments.{comments}
 use Rattle.printer.specs.Layout.{What, txt, signal, part, opt, each, plus, Piece, asked, layout}
 use Rattle.printer.specs.Combine
 use Rattle.printer.specs.Print
+use Rattle.formatter.specs.Numbers.{numberIn, signal-sign}
+use Rattle.formatter.specs.PutBack.{Body, State, bodyOf, emit, opened, closed, put, puts, nothingYet, putBack}
 use Rattle.formatter.specs.Plain
-use Rattle.comments.specs.Every.{comment-all}
 
 -- The number that an item names is at most that of the second mark of list l.
 pub record Below (l : ℕ) (x : Item) : Type 0 where
@@ -118,7 +118,7 @@ data Meets (a b k : ℕ) : Out → Out → Type 0 where
   stops : {xs ys : List Item} (e : ℕ) → All (Below (k + runsOf xs)) xs → Meets a b k (stop xs e) (stop ys e)
   gives : {l : ℕ} {xs ys : List Item} → Fits a b k l xs ys → Meets a b k (ok xs l) (ok ys l)
 
--- Two printings from every number from j on.
+-- Two printings meet from every number from j on, as where a test names the marks of list j.
 record Agree (j : ℕ) (p q : Print) : Type 0 where
   at : (k : ℕ) → j ≤ k → Meets 0 0 k (p k) (q k)
 
@@ -404,6 +404,6 @@ small : {k : ℕ} {o o′ : Out} → Meets 0 0 k o o′ → All (Below (k + runs
 small (stops e s) = s
 small (gives f) = below-le (omega (arith, f .next)) (f .small)
 
--- the numbers that items name are small, also where the printing stops: no list's number is named before its run has begun, but for its own marks and tests
+-- an item names at most the second mark of the list that would come next, also where the printing stops
 pub numbers-small : (f : Forest) → let xs = itemsOf (Print.sourceFile f 0) in All (Below (runsOf xs)) xs
 numbers-small f = below-le (omega arith) (small (file-same f .at 0 (omega arith)))

@@ -12,7 +12,9 @@ use lib.ListN.{length, length-append}
 use borrow.Author.Tests.{leb-true, eqb-true, eq-eqb, ne-eqb}
 use Rattle.text.specs.Basic.{ascii, isNil, and-true, sum, sum-append, All, ∅, _▹_}
 use Rattle.items.specs.Item.{Test, Item, text, newline, spaceOrNewline, indent, outdent, mark, group, groupEnd, block, blockEnd, run, runEnd, again, ifTest, elseItem, endIf, Out, stop, ok, itemsOf, Print, after, next, _⨟_, none, say, says, stopped, lit, when, numbered, openRun}
-use Rattle.printer.specs.Combine
+use Rattle.items.specs.Records.{bytesOf}
+use Rattle.items.specs.Signal.{signalItem}
+use Rattle.items.specs.declared.Signal.{Signal}
 use Rattle.comments.specs.Comments.{Location, aboveItem, itemInline, endOfItems, comment}
 use Rattle.tree.specs.Tree.{Element, Forest, nil, tree, Part, texts, parts}
 use Rattle.tree.specs.declared.class.Class.{Class}
@@ -21,16 +23,14 @@ use Rattle.tree.specs.Class.{is, kinds, oneOf, ofKind, nth, first}
 use Rattle.children.specs.Reading
 use Rattle.children.specs.Reading.{Child, Ending, Around}
 use Rattle.children.specs.Comments.{comments}
+use Rattle.printer.specs.Combine
 use Rattle.printer.specs.Layout.{What, txt, signal, part, opt, each, plus, Piece, asked, layout, rows}
+use Rattle.printer.specs.Print
 use Rattle.formatter.specs.Tests.{every, everyRow, within-all, class-all, layout-every}
-use Rattle.items.specs.Records.{bytesOf}
-use Rattle.items.specs.Signal.{signalItem}
-use Rattle.items.specs.declared.Signal.{Signal}
 use Rattle.formatter.specs.Numbers.{signal-sign}
 use Rattle.formatter.specs.Weights
 use Rattle.formatter.specs.Weights.{noted, listed, sum-behind, sum-upTo, heft, taken, Maybe, neither, just, nth-all, plus-all, Of, TameReading, between-tame}
 use Rattle.formatter.specs.Columns.{Column, whole, early, late, note, apart, single, empty, Seen, seeing, column, columns, columns-le, weightOf, whole-sum, plus-sum, note-sum, early-nth, second-nth}
-use Rattle.printer.specs.Print
 
 -- Tests over the table of rows: the texts are short, a second part is an expression, parts that are all printed can be in a list, and no part is printed twice.
 

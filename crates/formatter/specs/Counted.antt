@@ -9,11 +9,11 @@ use lib.ListN.{length, length-append, drop, length-take, length-drop}
 use borrow.Author.Tests.{lt-ltb, eqb-true, leb-true}
 use Rattle.text.specs.Basic.{sum}
 use Rattle.items.specs.Item.{Item, itemsOf}
+use Rattle.items.specs.Records.{bytesOf, bytes}
+use Rattle.comments.specs.Comments.{comment}
+use Rattle.comments.specs.Made.{excess, comment-made}
 use Rattle.tree.specs.Tree.{Element, elementOf, elements, le32, Forest, nil, tree, forest, choose, texts, countN, countB, textsOf, elementsOf, treeOf}
 use Rattle.tree.specs.Accepted.{Accepted}
-use Rattle.comments.specs.Comments.{comment}
-use Rattle.items.specs.Records.{bytesOf, bytes}
-use Rattle.comments.specs.Made.{excess, comment-made}
 use Rattle.printer.specs.Print.{sourceFile}
 use Rattle.formatter.specs.Bound.{count, Rising, end, node, rising-le, bound}
 

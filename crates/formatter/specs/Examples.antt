@@ -11,18 +11,18 @@ use lib.ListN.{length}
 use borrow.Author.Tests.{eqb-true}
 use Rattle.text.specs.Basic.{ascii, any, all, sum, dropWhile, dropEnd, sameBytes, startsWith, count, All, ∅, _▹_, and-true}
 use Rattle.text.specs.Text.{follows, afterByte, validFrom, trimEnd, trim, lines as textLines, padding, chars, lead, isWhite, whiteSpace, utf8, isPad}
-use Rattle.items.specs.Item.{Test, always, lines, Item, text, newline, spaceOrNewline, mark, group, groupEnd, block, blockEnd, run, runEnd, again, ifTest, elseItem, endIf, _⨟_, none as nothing, say, says, stopped, lit, when, numbered, openRun}
+use Rattle.items.specs.Item.{Test, always, lines, Item, text, newline, spaceOrNewline, mark, group, groupEnd, block, blockEnd, run, runEnd, again, ifTest, elseItem, endIf, _⨟_, none as nothing, say, says, lit, when, numbered, openRun}
 use Rattle.items.specs.Records.{words, bytes, decoded, decoded-is, words-length}
 use Rattle.comments.specs.Comments
-use Rattle.comments.specs.Comments.{Location, aboveItem, itemInline, multiLine, singleLine, blockOf, blockLines, immediate, common, commonPadding, unpadded, tabbed, oneLine, onOneLine, manyLines, pieces}
+use Rattle.comments.specs.Comments.{Location, aboveItem, itemInline, multiLine, singleLine, blockOf, blockLines, immediate, common, commonPadding, unpadded, tabbed, oneLine, onOneLine, manyLines}
 use Rattle.tree.specs.Tree.{le16, le32, countN, countB, textsOf, elements, elementsOf, forest, texts, parts}
-use Rattle.tree.specs.Class.{kinds, oneOf, isPlus, nthOf, lastOf, plusOf}
-use Rattle.tree.specs.Refusal.{wrongLength, outOfLimits, firstWhere, unknownKind, misplaced, misplacedAfter, firstMisplaced, nodeWithText, wrongSizes, notUtf8, stringBlock, misformed, noIdent, firstNameless, tests, firstOf, refusal}
-use Rattle.children.specs.Reading.{between, pass, step, behind, upTo, newlinesBefore, newlinesBack, strict, leading, triviaBefore, triviaAfter}
+use Rattle.tree.specs.Class.{kinds, oneOf, nthOf}
+use Rattle.tree.specs.Refusal.{wrongLength, outOfLimits, firstWhere, unknownKind, misplaced, misplacedAfter, firstMisplaced, nodeWithText, wrongSizes, notUtf8, stringBlock, misformed, firstNameless, tests, firstOf, refusal}
+use Rattle.children.specs.Reading.{between, pass, step, behind, upTo, newlinesBefore, newlinesBack, strict, triviaBefore, triviaAfter}
 use Rattle.children.specs.Comments.{comments}
 use Rattle.printer.specs.Layout.{rows, pick}
 use Rattle.printer.specs.Combine.{comma, testOf, bracketed}
-use Rattle.printer.specs.Print.{shared, indented, partOr, eachOf, what, row, withComments, children, list, arguments, compBody, compOf, comprehension, manyBinds, localOf, values, valuesOf, expression, element, prints, sourceOf, source, sourceFile}
+use Rattle.printer.specs.Print.{shared, indented, partOr, what, row, withComments, children, list, values, valuesOf, expression, element, prints, sourceOf, source, sourceFile}
 use Rattle.formatter.specs.Answer.{Verdict, turnedAway, printed, fromPrinting, fromTests, verdict}
 
 -- An element of a tree image: its kind, its level and its text.
@@ -133,7 +133,7 @@ examples =
     ∷ []
 
 computed : all passes examples ≡ true
-unfolding examples all sameBytes words bytes any dropWhile dropEnd startsWith count sum flatten follows afterByte validFrom trimEnd trim textLines padding chars lead isWhite whiteSpace utf8 isPad _⨟_ nothing say says stopped lit when numbered openRun Comments.comment multiLine singleLine blockOf blockLines immediate common commonPadding unpadded tabbed oneLine onOneLine manyLines pieces le16 le32 countN countB textsOf elements elementsOf forest texts parts kinds oneOf isPlus nthOf lastOf plusOf between pass step behind upTo newlinesBefore newlinesBack strict leading triviaBefore triviaAfter comments rows pick comma testOf bracketed shared indented partOr eachOf what row withComments children list arguments compBody compOf comprehension manyBinds localOf values valuesOf expression element prints sourceOf source sourceFile wrongLength outOfLimits firstWhere unknownKind misplaced misplacedAfter firstMisplaced nodeWithText wrongSizes notUtf8 stringBlock misformed noIdent firstNameless tests firstOf refusal fromPrinting fromTests verdict
+unfolding examples all sameBytes words bytes any dropWhile dropEnd startsWith count sum flatten follows afterByte validFrom trimEnd trim textLines padding chars lead isWhite whiteSpace utf8 isPad _⨟_ nothing say says lit when numbered openRun Comments.comment multiLine singleLine blockOf blockLines immediate common commonPadding unpadded tabbed oneLine onOneLine manyLines le16 le32 countN countB textsOf elements elementsOf forest texts parts kinds oneOf nthOf between pass step behind upTo newlinesBefore newlinesBack strict triviaBefore triviaAfter comments rows pick comma testOf bracketed shared indented partOr what row withComments children list values valuesOf expression element prints sourceOf source sourceFile wrongLength outOfLimits firstWhere unknownKind misplaced misplacedAfter firstMisplaced nodeWithText wrongSizes notUtf8 stringBlock misformed firstNameless tests firstOf refusal fromPrinting fromTests verdict
 computed = refl
 
 same-true : (xs ys : List ℕ) → sameBytes xs ys ≡ true → xs ≡ ys
