@@ -10,4 +10,3 @@ pub mod Lead
 pub mod Uses
 pub mod Comments
 pub mod Between
-pub mod Examples

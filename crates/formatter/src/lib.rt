@@ -1,0 +1,1 @@
+// The call from a tree image to print items.
