@@ -1,7 +1,7 @@
 //! Makes data/ and stdout: what crate `children` is held to. `remake` compiles and runs it.
 //!
-//! The answers are worked out here with lists, as the scope paper tells it: which trivia is inline, which waits, and what each
-//! child asks for. Nothing of the crate is used.
+//! The answers are worked out here with lists, as the scope paper tells it: which trivia is inline,
+//! which waits, and what each child asks for. Nothing of the crate is used.
 use std::fs;
 use std::path::Path;
 
@@ -62,7 +62,11 @@ struct Child {
 
 enum Reading {
     Foreign(u8),
-    Read { children: Vec<Child>, blank: bool, ending: Vec<Element> },
+    Read {
+        children: Vec<Child>,
+        blank: bool,
+        ending: Vec<Element>,
+    },
 }
 
 /// Newlines in front: whitespace and errors, up to the first other trivia.
@@ -92,58 +96,95 @@ fn newlines_after(notes: &[Element]) -> u32 {
     n
 }
 
-/// The newlines between the last child and what waits behind it.
-fn newlines(children: &[Child], waiting: &[Element]) -> u32 {
-    let behind = children.last().map_or(0, |c| newlines_after(&c.inline));
-    newlines_before(waiting) + behind
+/// What a pass over the elements carries.
+#[derive(Default)]
+struct Pass {
+    children: Vec<Child>,
+    waiting: Vec<Element>,
+    started: bool,
+    had: bool,
+    trailing: Option<Vec<Element>>,
 }
 
-fn reading(elements: &[Element], loose: bool, mut trailing: Option<Vec<Element>>) -> Reading {
-    let mut children: Vec<Child> = Vec::new();
-    let mut waiting: Vec<Element> = Vec::new();
-    let (mut started, mut had) = (false, false);
-    for e in elements {
-        if e.sort == Sort::Child {
-            if let Some(list) = trailing.take() {
-                if !waiting.is_empty() {
-                    return Reading::Foreign(e.number);
-                }
-                waiting = list;
+impl Pass {
+    /// The newlines between the last child and what waits.
+    fn newlines(&self) -> u32 {
+        let behind = self
+            .children
+            .last()
+            .map_or(0, |c| newlines_after(&c.inline));
+        newlines_before(&self.waiting) + behind
+    }
+
+    /// Says whether something waits that bars the trailing list from the child.
+    fn take_child(&mut self, number: u8) -> bool {
+        if let Some(list) = self.trailing.take() {
+            if !self.waiting.is_empty() {
+                return true;
             }
-            let n = newlines(&children, &waiting);
-            children.push(Child { number: e.number, blank: had && n >= 2, many: n >= 1, before: waiting, inline: Vec::new() });
-            waiting = Vec::new();
-            (started, had) = (false, true);
-        } else if e.is_trivia() {
-            if trailing.is_some() {
-                continue;
+            self.waiting = list;
+        }
+        let n = self.newlines();
+        self.children.push(Child {
+            number,
+            blank: self.had && n >= 2,
+            many: n >= 1,
+            before: std::mem::take(&mut self.waiting),
+            inline: Vec::new(),
+        });
+        (self.started, self.had) = (false, true);
+        false
+    }
+
+    fn take_trivia(&mut self, e: Element) {
+        if self.trailing.is_some() {
+            return;
+        }
+        self.had = true;
+        let stays = !self.started && (e.feeds == 0 || e.sort == Sort::Single);
+        match self.children.last_mut() {
+            Some(child) if stays => {
+                child.inline.push(e);
+                self.started = e.sort == Sort::Single;
             }
-            had = true;
-            match children.last_mut() {
-                Some(child) if !started && (e.feeds == 0 || e.sort == Sort::Single) => {
-                    child.inline.push(*e);
-                    started = e.sort == Sort::Single;
-                }
-                _ => {
-                    waiting.push(*e);
-                    started = true;
-                }
+            _ => {
+                self.waiting.push(e);
+                self.started = true;
             }
-        } else if e.sort == Sort::Error {
-            waiting.push(*e);
-        } else if loose {
-            if had {
-                break;
-            }
-            started = true;
-        } else if e.sort != Sort::Separator {
-            return Reading::Foreign(e.number);
         }
     }
-    Reading::Read { blank: newlines(&children, &waiting) >= 2, children, ending: waiting }
 }
 
-/// What waits before the first child, the end or a foreign element: the trailing list of the readings with one.
+fn reading(elements: &[Element], loose: bool, trailing: Option<Vec<Element>>) -> Reading {
+    let mut pass = Pass {
+        trailing,
+        ..Pass::default()
+    };
+    for e in elements {
+        match e.sort {
+            Sort::Child => {
+                if pass.take_child(e.number) {
+                    return Reading::Foreign(e.number);
+                }
+            }
+            Sort::Space | Sort::Single | Sort::Multi => pass.take_trivia(*e),
+            Sort::Error => pass.waiting.push(*e),
+            _ if loose && pass.had => break,
+            _ if loose => pass.started = true,
+            Sort::Separator => {}
+            Sort::Other => return Reading::Foreign(e.number),
+        }
+    }
+    let blank = pass.newlines() >= 2;
+    Reading::Read {
+        children: pass.children,
+        blank,
+        ending: pass.waiting,
+    }
+}
+
+/// What waits before the first child, the end or a foreign element: the trailing list of the
+/// readings that have one.
 fn first_waiting(elements: &[Element], loose: bool) -> Vec<Element> {
     let mut waiting = Vec::new();
     let mut had = false;
@@ -168,7 +209,11 @@ fn answer(elements: &[Element], loose: bool, trailing: Option<Vec<Element>>) -> 
     let handed = trailing.is_some();
     let (children, blank, ending) = match reading(elements, loose, trailing) {
         Reading::Foreign(number) => return vec![1, number],
-        Reading::Read { children, blank, ending } => (children, blank, ending),
+        Reading::Read {
+            children,
+            blank,
+            ending,
+        } => (children, blank, ending),
     };
     let many = children.iter().any(|c| c.many);
     let mut answer = vec![2, children.len() as u8, many as u8, blank as u8];
@@ -187,47 +232,66 @@ fn answer(elements: &[Element], loose: bool, trailing: Option<Vec<Element>>) -> 
 
 /// Strict, loose, strict and loose with a trailing list.
 fn answers(word: &[u8]) -> [Vec<u8>; 4] {
-    let elements: Vec<Element> = (1..).zip(word).map(|(number, &w)| Element { number, sort: LETTERS[w as usize].0, feeds: LETTERS[w as usize].1 }).collect();
+    let element = |(number, &letter): (u8, &u8)| {
+        let (sort, feeds) = LETTERS[letter as usize];
+        Element {
+            number,
+            sort,
+            feeds,
+        }
+    };
+    let elements: Vec<Element> = (1..).zip(word).map(element).collect();
     let handed = |loose| answer(&elements, loose, Some(first_waiting(&elements, loose)));
-    [answer(&elements, false, None), answer(&elements, true, None), handed(false), handed(true)]
+    [
+        answer(&elements, false, None),
+        answer(&elements, true, None),
+        handed(false),
+        handed(true),
+    ]
 }
 
 /// The sequence of a number: its decimal digits, the lowest first.
 fn word(length: u32, number: u32) -> Vec<u8> {
-    (0..length).map(|i| (number / 10u32.pow(i) % 10) as u8).collect()
+    (0..length)
+        .map(|i| (number / 10u32.pow(i) % 10) as u8)
+        .collect()
 }
 
 /// FNV-1a of 32 bits, a number at a time.
 fn mix(digest: u32, numbers: &[u8]) -> u32 {
-    numbers.iter().fold(digest, |h, &x| (h ^ x as u32).wrapping_mul(16777619))
+    numbers
+        .iter()
+        .fold(digest, |h, &x| (h ^ x as u32).wrapping_mul(16777619))
 }
 
-/// For each length four digests, each of all answers of one reading, four bytes, the lowest first.
-fn digests() -> Vec<u8> {
-    let mut out = Vec::new();
-    for length in 0..=LONGEST {
-        let mut digests = [2166136261u32; 4];
-        for number in 0..10u32.pow(length) {
-            for (digest, answer) in digests.iter_mut().zip(answers(&word(length, number))) {
-                *digest = mix(*digest, &answer);
-            }
-        }
-        out.extend(digests.iter().flat_map(|d| d.to_le_bytes()));
-    }
-    out
+/// The digests with the four answers to a sequence behind what they hold.
+fn mixed(digests: [u32; 4], word: &[u8]) -> [u32; 4] {
+    let answers = answers(word);
+    [0, 1, 2, 3].map(|k| mix(digests[k], &answers[k]))
 }
 
-/// The sample: all sequences of up to 3 elements, and of each greater length some that a fixed generator draws.
-fn sampled() -> Vec<Vec<u8>> {
-    let mut words: Vec<Vec<u8>> = (0..=3).flat_map(|length| (0..10u32.pow(length)).map(move |number| word(length, number))).collect();
+/// Of each reading the digest of all answers to the sequences of one length.
+fn digests(length: u32) -> [u32; 4] {
+    let numbers = 0..10u32.pow(length);
+    numbers.fold([2166136261; 4], |d, number| mixed(d, &word(length, number)))
+}
+
+/// The sequences that a fixed generator draws.
+fn drawn() -> Vec<Vec<u8>> {
+    let mut words = Vec::new();
     let mut seed = 1u32;
-    for length in 4..=LONGEST {
-        for _ in 0..DRAWN {
-            seed = seed.wrapping_mul(1664525).wrapping_add(1013904223);
-            words.push(word(length, (seed >> 8) % 10u32.pow(length)));
-        }
+    for k in 0..(LONGEST - 3) * DRAWN {
+        seed = seed.wrapping_mul(1664525).wrapping_add(1013904223);
+        let length = 4 + k / DRAWN;
+        words.push(word(length, (seed >> 8) % 10u32.pow(length)));
     }
     words
+}
+
+/// The sample: all sequences of up to 3 elements, and those that are drawn.
+fn sampled() -> Vec<Vec<u8>> {
+    let all = |length| (0..10u32.pow(length)).map(move |number| word(length, number));
+    (0..=3).flat_map(all).chain(drawn()).collect()
 }
 
 fn field(bytes: &[u8]) -> Vec<u8> {
@@ -240,16 +304,25 @@ fn case(word: &[u8]) -> Vec<u8> {
     [field(word), answers].concat()
 }
 
-fn stdout(sample: usize) -> String {
-    let lengths = (0..=LONGEST).map(|n| format!("length {n}\n  sequences {}\n  readings that agree 4\n", 10u32.pow(n)));
-    let sample = format!("sample {sample}\n  sequences that agree {sample}\n  before the first that does not {sample}\n");
-    lengths.collect::<String>() + &sample
+/// What the program prints where all agree.
+fn printed(sample: usize) -> String {
+    let mut out = String::new();
+    for n in 0..=LONGEST {
+        let total = 10u32.pow(n);
+        out += &format!("length {n}\n  sequences {total}\n  readings that agree 4\n");
+    }
+    out += &format!("sample {sample}\n  sequences that agree {sample}\n");
+    out + &format!("  before the first that does not {sample}\n")
 }
 
 fn main() -> std::io::Result<()> {
     let here = std::env::args().nth(1).expect("the folder of the crate");
+    let here = Path::new(&here);
     let sample = sampled();
-    fs::write(Path::new(&here).join("data/digests.bin"), digests())?;
-    fs::write(Path::new(&here).join("data/sample.bin"), sample.iter().flat_map(|w| case(w)).collect::<Vec<u8>>())?;
-    fs::write(Path::new(&here).join("stdout"), stdout(sample.len()))
+    let cases: Vec<u8> = sample.iter().flat_map(|word| case(word)).collect();
+    let digests: Vec<u32> = (0..=LONGEST).flat_map(digests).collect();
+    let stored: Vec<u8> = digests.iter().flat_map(|d| d.to_le_bytes()).collect();
+    fs::write(here.join("data/digests.bin"), stored)?;
+    fs::write(here.join("data/sample.bin"), cases)?;
+    fs::write(here.join("stdout"), printed(sample.len()))
 }

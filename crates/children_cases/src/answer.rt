@@ -186,7 +186,7 @@ fn indexed(image: &[u8], table: &mut [u32]) -> bool
     true
 }
 
-// The four readings of the children of the first element.
+// The four readings of the children of the first element, behind what the digests hold.
 fn answers(image: &[u8], table: &[u32], d: Digests) -> Digests
     requires { ⌜ Indexed (now image) (now table) ⌝ }
 {
@@ -204,6 +204,7 @@ fn answers(image: &[u8], table: &[u32], d: Digests) -> Digests
     }
 }
 
+// The same from an image. One that is refused leaves the digests as they are, so that they are not those that are stored.
 fn answered(image: &[u8], d: Digests) -> Digests {
     let mut table = [0u32; TABLE];
     if !indexed(image, &mut table) {
@@ -212,7 +213,7 @@ fn answered(image: &[u8], d: Digests) -> Digests {
     answers(image, &table, d)
 }
 
-// The four answers to a sequence, behind what the digests hold.
+// The same from a sequence.
 pub fn mix_answers(word: &[u8], d: Digests) -> Digests
     requires { ⌜ length (now word) ≤ 7 ⌝ }
 {

@@ -42,7 +42,7 @@ fn count(b: bool) -> u64
     if b { 1 } else { 0 }
 }
 
-// The four answers to the sequence of a number, behind what the digests hold.
+// The four answers to sequence k of n elements, behind what the digests hold.
 fn mix_number(n: usize, k: u32, d: Digests) -> Digests
     requires { ⌜ n ≤ 7 ⌝ }
 {
@@ -51,7 +51,7 @@ fn mix_number(n: usize, k: u32, d: Digests) -> Digests
     mix_answers(&word[..n], d)
 }
 
-// The answers to all sequences of n elements, of which there are so many.
+// The answers to the sequences of n elements up to a number.
 fn all_of(n: usize, total: u32) -> Digests
     requires { ⌜ n ≤ 7 ⌝ }
 {
