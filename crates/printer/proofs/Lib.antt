@@ -2,8 +2,10 @@
 pub mod Chosen
 pub mod Listing
 pub mod Looking
+pub mod Nodes
 pub mod Printed
 pub mod Rowing
 pub mod Single
+pub mod Sources
 pub mod Tables
 pub mod Walking

@@ -109,16 +109,7 @@ module _ (pr : ℕ → Print) {r : Reading} where
 
 -- ---- object comprehensions
 
-some-none : {A : Type 0} {n : ℕ} → _≡_ {A = Option ℕ} (some n) nothing → A
-some-none {n} e = none-some n (sym e)
-
 module _ (pr : ℕ → Print) (ps : List Part) where
-  -- 'an object comprehension without a CompSpec'
-  pub comp-lacking : (n : ℕ) (x : Option Part) → numberOf x ≡ nothing → comprehension pr n ps x ≡ stopped n
-  unfolding comprehension
-  comp-lacking n nothing e = refl
-  comp-lacking n (some x) e = some-none e
-
   -- with one: the reading of its members
   pub comp-members : (n : ℕ) (x : Option Part) {j : ℕ} (r : Reading) → numberOf x ≡ some j → ((s : Part) → x ≡ some s → compMembers s ps ≡ r) → comprehension pr n ps x ≡ compOf pr ps r
   unfolding comprehension

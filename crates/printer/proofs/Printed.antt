@@ -11,7 +11,7 @@ use lib.ListN.{length}
 use Rattle.text.specs.Basic.{isNil, present, orElse}
 use Rattle.items.specs.declared.Printed.{Printed}
 use Rattle.items.specs.declared.Condition.{Condition}
-use Rattle.items.specs.Item.{newline, indent, outdent, group, Print, _⨟_, say, lit}
+use Rattle.items.specs.Item.{newline, indent, outdent, group, Print, _⨟_, say, stopped, lit}
 use Rattle.items.specs.Signal.{conditionTest}
 use Rattle.items.specs.Machine.{Held, held, Prints, nextRun}
 use Rattle.items.specs.Laws.{by, _▸_, numbers}
@@ -106,6 +106,12 @@ pub prints-comp : (pr : ℕ → Print) (ps : List Part) {index image : List ℕ}
     → Prints (newlineIf (m .blank)) h₃ h₄ → Prints (children pr (onLine Specs (conditionTest t)) (behindIt Specs (conditionTest t)) (kidsIn q)) h₄ h₅ → Prints (closeList (wordAt v) k (endingOf index image o)) h₅ h₆
     → Prints (compOf pr ps r) (held rs ts p) h₆
 prints-comp pr ps {q = q} t x e y n c w v p₁ p₂ p₃ p₄ p₅ p₆ = by (comp-full pr ps x q e y) (numbers _ n (rw (← c, ← (w .text), ← (v .text)) (p₁ ▸ p₂ ▸ p₃ ▸ p₄ ▸ p₅ ▸ p₆)))
+
+-- it has no CompSpec
+pub comp-lacks : (pr : ℕ → Print) (n : ℕ) (ps : List Part) (x : Option Part) {f : Option ℕ} {b : Bool} → f ≡ numberOf x → b ≡ not (present f) → b ≡ true → comprehension pr n ps x ≡ stopped n
+unfolding comprehension
+comp-lacks pr n ps nothing e g h = refl
+comp-lacks pr n ps (some x) e g h = absurd (false≢true (sym (rw e at g) ∙ h))
 
 -- its first reading
 pub member-reading : {image index : List ℕ} (i : ℕ) (pr : ℕ → Print) (x : Option Part) {f : Option ℕ} {b : Bool} {z : Bounds} → f ≡ numberOf x → b ≡ not (present f) → b ≡ false

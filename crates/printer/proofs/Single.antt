@@ -63,7 +63,7 @@ lone-child g x (G.Gaps.child k y gs) {cs} {e} h l = go (readFrom (childAt k y) g
     go (read es f) h s = let q : closedBy (childAt g x) k ∷ es ≡ cs = cc in absurd (omega (arith, s es f refl, ap length q))
 
 -- a local with one bind: the gap before it, and its number
-module _ (pr : ℕ → Print) {image index : List ℕ} {w : Kinds} {z : Bounds} {s : Span} (k : w ≡ kinds Bind) (h : Spans index image w (z .loose) false (z .from) (z .to) s) (r : Whole (readAt index image Bind z nothing)) (l : length (kidsIn (readAt index image Bind z nothing)) ≡ 1) where
+module _ {image index : List ℕ} {w : Kinds} {z : Bounds} {s : Span} (k : w ≡ kinds Bind) (h : Spans index image w (z .loose) false (z .from) (z .to) s) (r : Whole (readAt index image Bind z nothing)) (l : length (kidsIn (readAt index image Bind z nothing)) ≡ 1) where
   reads : readingOf (spanned index image w (z .loose) (z .to) s) ≡ read (r .kids) (r .ending)
   reads = rw (← (h .read), k) (sym (whole Bind (z .loose) _) ∙ r .is)
 
@@ -82,8 +82,8 @@ module _ (pr : ℕ → Print) {image index : List ℕ} {w : Kinds} {z : Bounds} 
       go false e true q = let n : [] ≡ r .kids = cc in absurd (omega (arith, count, ap length n))
       go false e false q = foreign-read q
 
-  pub lone-is : localOf pr (readAt index image Bind z nothing) ≡ comments (gapAt index image s .waiting) aboveItem ⨟ (lit "local " ⨟ pr (s .to))
-  lone-is =
+  pub lone-is : (pr : ℕ → Print) → localOf pr (readAt index image Bind z nothing) ≡ comments (gapAt index image s .waiting) aboveItem ⨟ (lit "local " ⨟ pr (s .to))
+  lone-is pr =
       let c = span-child′ in
       rw (whole Bind (z .loose) _, ← k, h .read, c) (lone-child _ _ _ (rw c at reads) count .one pr)
     where

@@ -2,7 +2,7 @@
 use mathlib.Core.Path.{_≡_, refl, sym, ap, _∙_}
 use mathlib.Core.Bool.{Bool, true, false}
 use mathlib.Core.Option.{none as nothing, some}
-use mathlib.Core.List.{List}
+use mathlib.Core.List.{List, []}
 use Prim.Native.Nat.{ℕ, _+_, _-_, _<_, _≤_}
 use native.Mathlib.Omega.{arith}
 use lib.Dec.{eqb}
@@ -20,16 +20,18 @@ use Rattle.children.specs.declared.gap.Span.{Span}
 use Rattle.children.specs.declared.survey.Outline.{Outline}
 use Rattle.children.specs.Reading.{Reading, foreign, read}
 use Rattle.children.specs.Whole.{whole}
+use Rattle.children.specs.Lead.{SurveyedAfter}
 use Rattle.children.specs.Stretch.{jumps-le}
-use Rattle.children.specs.Spans.{Spans, Surveyed, spanned, gapAt}
-use Rattle.children.specs.Uses.{span-reached, survey-reading}
+use Rattle.children.specs.Gaps.{Gap, gapOf}
+use Rattle.children.specs.Spans.{Lies, Spans, Surveyed, spanned, gapAt}
+use Rattle.children.specs.Uses.{span-reached, survey-reading, survey-after-reading}
 use Rattle.printer.specs.declared.lists.Style.{Style}
 use Rattle.printer.specs.Print.{valuesOf, values}
 use Rattle.printer.specs.Lists.{onLine, behindIt}
 use Rattle.printer.specs.Seq.{Goes, goes-none, goes-more, goes-all}
 use Rattle.printer.specs.Under.{At, Kid, under, printOf, kid-print, kid-at}
 use Rattle.printer.specs.Walked.{around, walked, valued, Outlined, outlined, outlined-foreign, walk-next, walk-none, value-next, value-none, value-read}
-use Rattle.printer.specs.Reads.{Within, Whole, readAt, Walks, walks-first, walks-kid, walks-next}
+use Rattle.printer.specs.Reads.{Within, Whole, readAt, kidsIn, Walks, walks-first, walks-kid, walks-next}
 
 -- ---- what a survey says
 
@@ -42,11 +44,34 @@ module _ (c : Class) {image index : List ℕ} {z : Bounds} {w : Kinds} {o : Outl
   pub survey-foreign : (o .last .end ≡ 1 → ⊥) → readAt index image c z nothing ≡ foreign (o .last .to)
   survey-foreign e = outlined-foreign index image o _ (survey-reading c (rw k at h)) e
 
+-- the same of a reading whose trailing list is what waits in the gap s
+module _ (c : Class) {image index : List ℕ} {z : Bounds} {w : Kinds} {s : Span} {o : Outline} (k : w ≡ kinds c) (h : SurveyedAfter index image w (z .loose) s (z .from) (z .to) o) where
+  pub after-outlined : o .last .end ≡ 1 → Outlined index image (readAt index image c z (some (gapAt index image s .waiting))) o
+  after-outlined e = outlined _ (survey-after-reading c (rw k at h)) e
+
+  pub after-foreign : (o .last .end ≡ 1 → ⊥) → readAt index image c z (some (gapAt index image s .waiting)) ≡ foreign (o .last .to)
+  after-foreign e = outlined-foreign index image o _ (survey-after-reading c (rw k at h)) e
+
 -- a reading that comes to its end has no foreign element
 pub outlined-whole : {index image : List ℕ} {r : Reading} {o : Outline} → Outlined index image r o → Whole r
 outlined-whole x = record { kids = x .kids; ending = x .ending; is = x .is }
 
+-- and as many children as it says
+pub outlined-count : {index image : List ℕ} {r : Reading} {o : Outline} (n : ℕ) → Outlined index image r o → o .children ≡ n → length (kidsIn r) ≡ n
+unfolding kidsIn
+outlined-count n x e = rw (x .is) (x .count ∙ e)
+
 -- ---- gaps
+
+-- a gap before which nothing came
+module _ (index image : List ℕ) (s : Span) {t : Span} (e : t ≡ record { from = s .from; cut = s .cut; to = s .to; had = false; end = s .end }) where
+  pub unasked-lies : Lies index image s → Lies index image t
+  unasked-lies h = rw e (record { first = h .first; second = h .second })
+
+  -- its child asks for no blank line
+  pub unasked-around : (pr : ℕ → Print) (f g : Bool → Print) (j : ℕ) (b : Gap) (m : Bool) → around pr f g (gapOf [] (gapAt index image s .waiting) false) j b m ≡ around pr f g (gapAt index image t) j b m
+  unfolding around
+  unasked-around pr f g j b m = rw e
 
 -- a gap by the class that the code has named
 pub spans-as : {index image : List ℕ} {w v : Kinds} {loose after : Bool} {from b : ℕ} {s : Span} → w ≡ v → Spans index image w loose after from b s → Spans index image v loose after from b s

@@ -1,40 +1,48 @@
 use Prim.Native.Nat.{ℕ}
 use borrow.Author.Needs.{needs}
+use mathlib.Core.Path.{_∙_}
+use native.Mathlib.Omega.{arith}
+use Rattle.items.specs.Laws.{by}
+use Rattle.printer.specs.Reads.{within}
+use Rattle.printer.proofs.Walking.{survey-outlined, survey-foreign, outlined-whole}
+use Rattle.printer.proofs.Listing.{args-foreign}
+use Rattle.printer.proofs.Printed.{enclosed-reading, left-paren, right-paren, prints-args}
 use Rattle.printer.proofs.printers.args.Reads as args
 use Rattle.printer.proofs.printers.+arg+args+bind+binds+body+child+comp+each+expr+items+kids+list+local+lone+member+node+one+part+piece+row+specs+values.Lts-args as lts
 use Rattle.printer.proofs.printers.+arg+args+bind+binds+body+child+comp+each+expr+items+kids+list+local+lone+member+node+one+part+piece+row+specs+values.Proof.Cycle.{args-at, args-claims}
 
 returns : (t : ℕ) → lts.Need-returns (args-claims t) (args-at t) args.Post
 returns t c =
-    let c1 = c in
-    let c2 = c1 .before .before .before .before in
-    let c3 = c2 .before in
-    let c4 = c3 .before in
-    let s = c4 .before .before .before .before .before in
-    c4 .enclosed .ensures
-    ▸ c3 .kinds-of .ensures
-    ▸ c2 .survey .ensures
-    ▸ c1 .stop-at .ensures
+    let i1 = c .before .before in
+    let o = i1 .before .before in
+    let w = o .before in
+    let z = w .before in
+    by (args-foreign _ (enclosed-reading _ _ _ _ (z .enclosed .ensures) ∙ survey-foreign _ (w .kinds-of .ensures) (o .survey .ensures) (i1 .if1 .taken))) (c .stop-at .ensures _ _)
 
 returns-2 : (t : ℕ) → lts.Need-returns-2 (args-claims t) (args-at t) args.Post
 returns-2 t c =
     let c1 = c .before .before .before .before in
     let c2 = c1 .before .before .before .before .before .before .before in
     let c3 = c2 .before .before .before .before .before .before .before in
-    let c4 = c3 .before .before .before in
-    let c5 = c4 .before in
-    let c6 = c5 .before .before .before in
-    let c7 = c6 .before in
-    let c8 = c7 .before in
-    let s = c8 .before .before .before .before .before in
-    c8 .enclosed .ensures
-    ▸ c7 .kinds-of .ensures
-    ▸ c6 .survey .ensures
-    ▸ c5 .next-run .ensures
-    ▸ c4 .test-of .ensures
-    ▸ c3 .open-list .ensures
-    ▸ c2 .items .ensures
-    ▸ c1 .close-arguments .ensures
+    let t1 = c3 .before .before .before in
+    let n = t1 .before in
+    let i1 = n .before in
+    let o = i1 .before .before in
+    let w = o .before in
+    let z = w .before in
+    prints-args _ (enclosed-reading _ _ _ _ (z .enclosed .ensures)) (t1 .test-of .result) (survey-outlined _ (w .kinds-of .ensures) (o .survey .ensures) (i1 .if1 .left)) (n .next-run .ensures) (t1 .test-of .ensures) left-paren right-paren (c3 .open-list .ensures) (c2 .items .ensures) (c1 .close-arguments .ensures)
+
+items-asked : (t : ℕ) → lts.Need-items-requires (args-claims t) (args-at t) args.Post
+items-asked t c κs =
+    let i1 = c .before .before .before .before .before .before .before .before .before .before .before in
+    let o = i1 .before .before in
+    let w = o .before in
+    let z = w .before in
+    let s = z .before .before .before .before .before in
+    (omega (arith, s .pre .0), (within (s .pre .1) (z .enclosed .ensures), outlined-whole (survey-outlined _ (w .kinds-of .ensures) (o .survey .ensures) (i1 .if1 .left))))
+
+close-asked : (t : ℕ) → lts.Need-close-arguments-requires (args-claims t) (args-at t) args.Post
+close-asked t c κs = (right-paren .known, c .before .before .before .before .before .before .before .before .before .before .before .before .before .before .before .before .before .before .before .before .survey .ensures .lies)
 
 pub args-closed : {M : Type 1} (t : ℕ) → lts.Closed (args-claims t) (args-at t) args.Post M
 args-closed t =
@@ -44,15 +52,15 @@ args-closed t =
     args.Post
     (λ c κs. search needs)  -- enclosed-requires
     (λ c κs. search needs)  -- kinds-of-requires
-    (λ c κs. search needs)  -- survey-requires
+    (λ c κs. c .before .enclosed .ensures .region)  -- survey-requires
     (λ c. search needs)  -- cast-t17
     (λ c κs. search needs)  -- stop-at-requires
     (returns t)  -- returns
     (λ c κs. search needs)  -- next-run-requires
     (λ c κs. search needs)  -- test-of-requires
     (λ c κs. search needs)  -- open-list-requires
-    (λ c κs. search needs)  -- items-requires
-    (λ c κs. search needs)  -- close-arguments-requires
+    (items-asked t)  -- items-requires
+    (close-asked t)  -- close-arguments-requires
     (λ c. returns-2 t c .sameRecords)  -- same-length
     (λ c. returns-2 t c .sameTexts)  -- same-length-2
     (returns-2 t)  -- returns-2

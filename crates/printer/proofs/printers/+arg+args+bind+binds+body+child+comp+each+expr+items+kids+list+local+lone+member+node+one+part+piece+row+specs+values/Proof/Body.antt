@@ -1,20 +1,24 @@
 use Prim.Native.Nat.{ℕ}
 use borrow.Author.Needs.{needs}
+use native.Mathlib.Omega.{arith}
+use Rattle.items.specs.Laws.{by}
+use Rattle.printer.specs.Reads.{within}
+use Rattle.printer.proofs.Walking.{after-outlined, after-foreign, outlined-whole}
+use Rattle.printer.proofs.Listing.{specs-foreign}
+use Rattle.printer.proofs.Printed.{left-brace, right-brace, spec-reading, prints-comp}
 use Rattle.printer.proofs.printers.body.Reads as body
 use Rattle.printer.proofs.printers.+arg+args+bind+binds+body+child+comp+each+expr+items+kids+list+local+lone+member+node+one+part+piece+row+specs+values.Lts-body as lts
 use Rattle.printer.proofs.printers.+arg+args+bind+binds+body+child+comp+each+expr+items+kids+list+local+lone+member+node+one+part+piece+row+specs+values.Proof.Cycle.{body-at, body-claims}
 
 returns : (t : ℕ) → lts.Need-returns (body-claims t) (body-at t) body.Post
 returns t c =
-    let c1 = c in
-    let c2 = c1 .before .before .before .before in
-    let c3 = c2 .before in
-    let c4 = c3 .before in
-    let s = c4 .before .before .before .before .before in
-    c4 .spec-bounds .ensures
-    ▸ c3 .kinds-of .ensures
-    ▸ c2 .survey-after .ensures
-    ▸ c1 .stop-at .ensures
+    let i1 = c .before .before in
+    let o = i1 .before .before in
+    let w = o .before in
+    let z = w .before in
+    let s = z .before .before .before .before .before in
+    let x = s .pre .1 .1 .1 in
+    by (specs-foreign _ _ x _ (spec-reading _ x (z .spec-bounds .ensures)) (after-foreign _ (w .kinds-of .ensures) (o .survey-after .ensures) (i1 .if1 .taken))) (c .stop-at .ensures _ _)
 
 returns-2 : (t : ℕ) → lts.Need-returns-2 (body-claims t) (body-at t) body.Post
 returns-2 t c =
@@ -24,23 +28,29 @@ returns-2 t c =
     let c4 = c3 .before .before .before .before .before .before .before in
     let c5 = c4 .before .before .before .before .before .before .before in
     let c6 = c5 .before .before .before .before .before .before .before in
-    let c7 = c6 .before .before .before in
-    let c8 = c7 .before .before .before .before .before in
-    let c9 = c8 .before .before .before in
-    let c10 = c9 .before in
-    let c11 = c10 .before in
-    let s = c11 .before .before .before .before .before in
-    c11 .spec-bounds .ensures
-    ▸ c10 .kinds-of .ensures
-    ▸ c9 .survey-after .ensures
-    ▸ c8 .next-run .ensures
-    ▸ c7 .test-of .ensures
-    ▸ c6 .open-list .ensures
-    ▸ c5 .print-signal .ensures
-    ▸ c4 .items .ensures
-    ▸ c3 .newline-if .ensures
-    ▸ c2 .specs .ensures
-    ▸ c1 .close-list .ensures
+    let t1 = c6 .before .before .before in
+    let n = t1 .before .before .before .before .before in
+    let i1 = n .before in
+    let o = i1 .before .before in
+    let w = o .before in
+    let z = w .before in
+    let x = z .before .before .before .before .before .pre .1 .1 .1 in
+    prints-comp _ _ (t1 .test-of .result) x (spec-reading _ x (z .spec-bounds .ensures)) (after-outlined _ (w .kinds-of .ensures) (o .survey-after .ensures) (i1 .if1 .left)) (n .next-run .ensures) (t1 .test-of .ensures) left-brace right-brace
+    (c6 .open-list .ensures) (c5 .print-signal .ensures) (c4 .items .ensures) (c3 .newline-if .ensures) (c2 .specs .ensures) (c1 .close-list .ensures)
+
+items-asked : (t : ℕ) → lts.Need-items-requires (body-claims t) (body-at t) body.Post
+items-asked t c κs =
+    let s = c .before .before .before .before .before .before .before .before .before .before .before .before .before .before .before .before .before .before .before .before .before .before .before .before .before .before .before .before .before .before .before in
+    (omega (arith, s .pre .0), (s .pre .1 .0, outlined-whole (s .pre .1 .1 .1)))
+
+specs-asked : (t : ℕ) → lts.Need-specs-requires (body-claims t) (body-at t) body.Post
+specs-asked t c κs =
+    let i1 = c .before .before .before .before .before .before .before .before .before .before .before .before .before .before .before .before .before .before .before .before .before .before .before .before .before .before .before .before .before .before .before .before .before .before .before .before in
+    let o = i1 .before .before in
+    let w = o .before in
+    let z = w .before in
+    let s = z .before .before .before .before .before in
+    (omega (arith, s .pre .0), (within (s .pre .1 .0 .at) (z .spec-bounds .ensures), (s .pre .1 .1 .0, outlined-whole (after-outlined _ (w .kinds-of .ensures) (o .survey-after .ensures) (i1 .if1 .left)))))
 
 pub body-closed : {M : Type 1} (t : ℕ) → lts.Closed (body-claims t) (body-at t) body.Post M
 body-closed t =
@@ -48,9 +58,9 @@ body-closed t =
     (body-claims t)
     (body-at t)
     body.Post
-    (λ c κs. search needs)  -- spec-bounds-requires
+    (λ c κs. c .before .before .before .before .pre .1 .0 .at)  -- spec-bounds-requires
     (λ c κs. search needs)  -- kinds-of-requires
-    (λ c κs. search needs)  -- survey-after-requires
+    (λ c κs. (c .before .spec-bounds .ensures .region, c .before .before .before .before .before .before .pre .1 .1 .0))  -- survey-after-requires
     (λ c. search needs)  -- cast-t21
     (λ c κs. search needs)  -- stop-at-requires
     (returns t)  -- returns
@@ -58,10 +68,10 @@ body-closed t =
     (λ c κs. search needs)  -- test-of-requires
     (λ c κs. search needs)  -- open-list-requires
     (λ c κs. search needs)  -- print-signal-requires
-    (λ c κs. search needs)  -- items-requires
+    (items-asked t)  -- items-requires
     (λ c κs. search needs)  -- newline-if-requires
-    (λ c κs. search needs)  -- specs-requires
-    (λ c κs. search needs)  -- close-list-requires
+    (specs-asked t)  -- specs-requires
+    (λ c κs. (right-brace .known, c .before .before .before .before .before .before .before .before .before .before .before .before .before .before .before .before .before .before .before .before .before .before .before .before .before .before .before .before .before .before .before .before .before .before .before .before .before .before .before .before .before .before .before .before .before .survey-after .ensures .lies))  -- close-list-requires
     (λ c. returns-2 t c .sameRecords)  -- same-length
     (λ c. returns-2 t c .sameTexts)  -- same-length-2
     (returns-2 t)  -- returns-2

@@ -51,7 +51,7 @@ returns-3 t c =
     let z = d .before in
     let s = z .before .before .before .before .before .before .before in
     let r = list-reading _ (s .args .l) (z .before .before .opener .ensures) (z .before .closer .ensures) (d .child-class .ensures) (z .enclosed .ensures) in
-    prints-list _ _ _ _ r _ (survey-outlined _ (w .kinds-of .ensures) (o .survey .ensures) (i1 .if1 .left)) (i2 .before .is-empty .ensures) (i2 .if2 .left) (n .next-run .ensures) (t1 .test-of .ensures) (c4 .before .open-word .ensures) (c1 .before .close-word .ensures)
+    prints-list _ _ _ _ r (t1 .test-of .result) (survey-outlined _ (w .kinds-of .ensures) (o .survey .ensures) (i1 .if1 .left)) (i2 .before .is-empty .ensures) (i2 .if2 .left) (n .next-run .ensures) (t1 .test-of .ensures) (c4 .before .open-word .ensures) (c1 .before .close-word .ensures)
     (c4 .open-list .ensures) (c3 .print-signal .ensures) (c2 .items .ensures) (c1 .close-list .ensures)
 
 items-asked : (t : ℕ) → lts.Need-items-requires (list-claims t) (list-at t) list.Post

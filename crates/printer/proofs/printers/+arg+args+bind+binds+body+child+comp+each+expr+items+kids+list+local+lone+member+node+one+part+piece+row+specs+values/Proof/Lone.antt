@@ -1,22 +1,36 @@
 use Prim.Native.Nat.{ℕ}
 use borrow.Author.Needs.{needs}
+use native.Mathlib.Omega.{arith}
+use Rattle.items.specs.Laws.{_▸_, by}
+use Rattle.printer.specs.Rows.{words}
+use Rattle.printer.specs.Under.{kid-at, kid-print}
+use Rattle.printer.specs.Reads.{walks-first, walks-kid}
+use Rattle.printer.proofs.Rowing.{kid-falls}
+use Rattle.printer.proofs.Walking.{spans-as}
+use Rattle.printer.proofs.Single.{lone-there, lone-is}
 use Rattle.printer.proofs.printers.lone.Reads as lone
 use Rattle.printer.proofs.printers.+arg+args+bind+binds+body+child+comp+each+expr+items+kids+list+local+lone+member+node+one+part+piece+row+specs+values.Lts-lone as lts
 use Rattle.printer.proofs.printers.+arg+args+bind+binds+body+child+comp+each+expr+items+kids+list+local+lone+member+node+one+part+piece+row+specs+values.Proof.Cycle.{lone-at, lone-claims}
 
 returns : (t : ℕ) → lts.Need-returns (lone-claims t) (lone-at t) lone.Post
+unfolding words
 returns t c =
     let c1 = c .before .before .before .before in
     let c2 = c1 .before .before .before .before .before .before .before in
     let c3 = c2 .before .before .before .before .before .before .before in
-    let c4 = c3 .before .before .before in
-    let c5 = c4 .before in
-    let s = c5 .before .before .before .before .before in
-    c5 .kinds-of .ensures
-    ▸ c4 .gap .ensures
-    ▸ c3 .print-waiting .ensures
-    ▸ c2 .print-word .ensures
-    ▸ c1 .node .ensures
+    let g = c3 .before .before .before in
+    let w = g .before in
+    let s = w .before .before .before .before .before in
+    let k = walks-kid (walks-first _ (s .pre .1 .0) (spans-as (w .kinds-of .ensures) (g .gap .ensures)) (s .pre .1 .1 .0)) (lone-there (w .kinds-of .ensures) (g .gap .ensures) (s .pre .1 .1 .0) (s .pre .1 .1 .1)) in
+    by (lone-is (w .kinds-of .ensures) (g .gap .ensures) (s .pre .1 .1 .0) (s .pre .1 .1 .1) _) (c3 .print-waiting .ensures ▸ c2 .print-word .ensures ▸ by (kid-print k) (c1 .node .ensures))
+
+node-asked : (t : ℕ) → lts.Need-node-requires (lone-claims t) (lone-at t) lone.Post
+node-asked t c κs =
+    let g = c .before .before .before .before .before .before .before .before .before .before .before .before .before .before .before .before in
+    let w = g .before in
+    let s = w .before .before .before .before .before in
+    let k = walks-kid (walks-first _ (s .pre .1 .0) (spans-as (w .kinds-of .ensures) (g .gap .ensures)) (s .pre .1 .1 .0)) (lone-there (w .kinds-of .ensures) (g .gap .ensures) (s .pre .1 .1 .0) (s .pre .1 .1 .1)) in
+    (kid-falls 0 k (omega (arith, s .pre .0)), kid-at k)
 
 pub lone-closed : {M : Type 1} (t : ℕ) → lts.Closed (lone-claims t) (lone-at t) lone.Post M
 lone-closed t =
@@ -25,10 +39,10 @@ lone-closed t =
     (lone-at t)
     lone.Post
     (λ c κs. search needs)  -- kinds-of-requires
-    (λ c κs. search needs)  -- gap-requires
-    (λ c κs. search needs)  -- print-waiting-requires
+    (λ c κs. c .before .before .before .before .before .pre .1 .0 .region)  -- gap-requires
+    (λ c κs. c .before .before .gap .ensures .lies)  -- print-waiting-requires
     (λ c κs. search needs)  -- print-word-requires
-    (λ c κs. search needs)  -- node-requires
+    (node-asked t)  -- node-requires
     (λ c. returns t c .sameRecords)  -- same-length
     (λ c. returns t c .sameTexts)  -- same-length-2
     (returns t)  -- returns

@@ -1,5 +1,9 @@
 use Prim.Native.Nat.{ℕ}
 use borrow.Author.Needs.{needs}
+use native.Mathlib.Omega.{arith}
+use Rattle.items.specs.Laws.{by}
+use Rattle.printer.proofs.Nodes.{rowed-rest, rowed-arg, rowed-small, node-token, node-own, node-row}
+use Rattle.printer.specs.Print.{element}
 use Rattle.printer.proofs.printers.node.Reads as node
 use Rattle.printer.proofs.printers.+arg+args+bind+binds+body+child+comp+each+expr+items+kids+list+local+lone+member+node+one+part+piece+row+specs+values.Lts-node as lts
 use Rattle.printer.proofs.printers.+arg+args+bind+binds+body+child+comp+each+expr+items+kids+list+local+lone+member+node+one+part+piece+row+specs+values.Proof.Cycle.{node-at, node-claims}
@@ -7,92 +11,98 @@ use Rattle.printer.proofs.printers.+arg+args+bind+binds+body+child+comp
 returns : (t : ℕ) → lts.Need-returns (node-claims t) (node-at t) node.Post
 returns t c =
     let c1 = c .before .before .before .before in
-    let c2 = c1 .before .before .before .before in
-    let s = c2 .before .before .before .before .before in
-    c2 .kind-at .ensures
-    ▸ c1 .token .ensures
+    let i1 = c1 .before .before .before in
+    by (node-token (i1 .before .before .before .before .before .before .pre .1) (i1 .before .kind-at .ensures) (i1 .if1 .taken)) (c1 .token .ensures)
 
 returns-2 : (t : ℕ) → lts.Need-returns-2 (node-claims t) (node-at t) node.Post
+unfolding element
 returns-2 t c =
     let c1 = c .before .before .before .before in
-    let c2 = c1 .before .before .before .before .before in
-    let s = c2 .before .before .before .before .before in
-    c2 .kind-at .ensures
-    ▸ c1 .expr .ensures
+    let m = c1 .before .before .before in
+    by (node-own (m .before .before .before .before .before .before .before .pre .1) (m .before .before .kind-at .ensures) 2 (m .match .keys1)) (c1 .expr .ensures)
 
 returns-3 : (t : ℕ) → lts.Need-returns-3 (node-claims t) (node-at t) node.Post
+unfolding element
 returns-3 t c =
     let c1 = c .before .before .before .before in
-    let c2 = c1 .before .before .before .before .before in
-    let s = c2 .before .before .before .before .before in
-    c2 .kind-at .ensures
-    ▸ c1 .list .ensures
+    let m = c1 .before .before .before in
+    by (node-own (m .before .before .before .before .before .before .before .pre .1) (m .before .before .kind-at .ensures) 10 (m .match .keys2)) (c1 .list .ensures)
 
 returns-4 : (t : ℕ) → lts.Need-returns-4 (node-claims t) (node-at t) node.Post
+unfolding element
 returns-4 t c =
     let c1 = c .before .before .before .before in
-    let c2 = c1 .before .before .before .before .before in
-    let s = c2 .before .before .before .before .before in
-    c2 .kind-at .ensures
-    ▸ c1 .local .ensures
+    let m = c1 .before .before .before in
+    by (node-own (m .before .before .before .before .before .before .before .pre .1) (m .before .before .kind-at .ensures) 22 (m .match .keys3)) (c1 .local .ensures)
 
 returns-5 : (t : ℕ) → lts.Need-returns-5 (node-claims t) (node-at t) node.Post
+unfolding element
 returns-5 t c =
     let c1 = c .before .before .before .before in
-    let c2 = c1 .before .before .before .before .before in
-    let s = c2 .before .before .before .before .before in
-    c2 .kind-at .ensures
-    ▸ c1 .comp .ensures
+    let m = c1 .before .before .before in
+    by (node-own (m .before .before .before .before .before .before .before .pre .1) (m .before .before .kind-at .ensures) 26 (m .match .keys4)) (c1 .comp .ensures)
 
 returns-6 : (t : ℕ) → lts.Need-returns-6 (node-claims t) (node-at t) node.Post
+unfolding element
 returns-6 t c =
     let c1 = c .before .before .before .before in
-    let c2 = c1 .before .before .before .before .before in
-    let s = c2 .before .before .before .before .before in
-    c2 .kind-at .ensures
-    ▸ c1 .list2 .ensures
+    let m = c1 .before .before .before in
+    by (node-own (m .before .before .before .before .before .before .before .pre .1) (m .before .before .kind-at .ensures) 27 (m .match .keys5)) (c1 .list2 .ensures)
 
 returns-7 : (t : ℕ) → lts.Need-returns-7 (node-claims t) (node-at t) node.Post
+unfolding element
 returns-7 t c =
     let c1 = c .before .before .before .before in
-    let c2 = c1 .before .before .before .before .before in
-    let s = c2 .before .before .before .before .before in
-    c2 .kind-at .ensures
-    ▸ c1 .args2 .ensures
+    let m = c1 .before .before .before in
+    by (node-own (m .before .before .before .before .before .before .before .pre .1) (m .before .before .kind-at .ensures) 47 (m .match .keys6)) (c1 .args2 .ensures)
 
 returns-8 : (t : ℕ) → lts.Need-returns-8 (node-claims t) (node-at t) node.Post
 returns-8 t c =
     let c1 = c .before .before .before .before in
-    let c2 = c1 .before .before .before .before .before in
-    let s = c2 .before .before .before .before .before in
-    c2 .kind-at .ensures
-    ▸ c1 .arg .ensures
+    let m = c1 .before .before .before in
+    by (node-row (m .before .before .before .before .before .before .before .pre .1) (m .before .before .kind-at .ensures) (rowed-arg _ (m .match .keys7))) (c1 .arg .ensures)
+
+arg-asked : (t : ℕ) → lts.Need-arg-requires (node-claims t) (node-at t) node.Post
+arg-asked t c κs =
+    let m = c .before .before in
+    let s = m .before .before .before .before .before .before .before in
+    (omega (arith, s .pre .0), (s .pre .1, rowed-small _ _ (m .before .before .kind-at .ensures) (rowed-arg _ (m .match .keys7))))
 
 returns-9 : (t : ℕ) → lts.Need-returns-9 (node-claims t) (node-at t) node.Post
 returns-9 t c =
     let c1 = c .before .before .before .before in
-    let c2 = c1 .before .before .before .before .before .before .before in
-    let s = c2 .before .before .before .before .before in
-    c2 .kind-at .ensures
-    ▸ c1 .bind .ensures
+    let m = c1 .before .before .before .before .before in
+    by (node-row (m .before .before .before .before .before .before .before .pre .1) (m .before .before .kind-at .ensures) (rowed-rest _ (m .before .if1 .left) (m .match .rest .0 .0 .0 .0 .0 .0 .1) (m .match .rest .0 .0 .0 .0 .0 .1) (m .match .rest .0 .0 .0 .0 .1) (m .match .rest .0 .0 .0 .1) (m .match .rest .0 .0 .1) (m .match .rest .0 .1))) (c1 .bind .ensures)
+
+bind-asked : (t : ℕ) → lts.Need-bind-requires (node-claims t) (node-at t) node.Post
+bind-asked t c κs =
+    let m = c .before .before .before .before in
+    let s = m .before .before .before .before .before .before .before in
+    (omega (arith, s .pre .0), (s .pre .1, rowed-small _ _ (m .before .before .kind-at .ensures) (rowed-rest _ (m .before .if1 .left) (m .match .rest .0 .0 .0 .0 .0 .0 .1) (m .match .rest .0 .0 .0 .0 .0 .1) (m .match .rest .0 .0 .0 .0 .1) (m .match .rest .0 .0 .0 .1) (m .match .rest .0 .0 .1) (m .match .rest .0 .1))))
 
 returns-10 : (t : ℕ) → lts.Need-returns-10 (node-claims t) (node-at t) node.Post
 returns-10 t c =
     let c1 = c .before .before .before .before in
-    let c2 = c1 .before .before .before .before .before .before .before .before in
-    let s = c2 .before .before .before .before .before in
-    c2 .kind-at .ensures
-    ▸ c1 .member .ensures
+    let m = c1 .before .before .before .before .before .before in
+    by (node-row (m .before .before .before .before .before .before .before .pre .1) (m .before .before .kind-at .ensures) (rowed-rest _ (m .before .if1 .left) (m .match .rest .0 .0 .0 .0 .0 .0 .1) (m .match .rest .0 .0 .0 .0 .0 .1) (m .match .rest .0 .0 .0 .0 .1) (m .match .rest .0 .0 .0 .1) (m .match .rest .0 .0 .1) (m .match .rest .0 .1))) (c1 .member .ensures)
+
+member-asked : (t : ℕ) → lts.Need-member-requires (node-claims t) (node-at t) node.Post
+member-asked t c κs =
+    let m = c .before .before .before .before .before in
+    let s = m .before .before .before .before .before .before .before in
+    (omega (arith, s .pre .0), (s .pre .1, rowed-small _ _ (m .before .before .kind-at .ensures) (rowed-rest _ (m .before .if1 .left) (m .match .rest .0 .0 .0 .0 .0 .0 .1) (m .match .rest .0 .0 .0 .0 .0 .1) (m .match .rest .0 .0 .0 .0 .1) (m .match .rest .0 .0 .0 .1) (m .match .rest .0 .0 .1) (m .match .rest .0 .1))))
 
 returns-11 : (t : ℕ) → lts.Need-returns-11 (node-claims t) (node-at t) node.Post
 returns-11 t c =
     let c1 = c .before .before .before .before in
-    let c2 = c1 .before .before .before in
-    let c3 = c2 .before .before .before in
-    let s = c3 .before .before .before .before .before in
-    c3 .kind-at .ensures
-    ▸ ⊎-elim (λ w. met (by (? (w .0)) (idle))) (λ w. met (by (? (w .0)) (idle))) (c2 .if2 .came)
-    ▸ c1 .row .ensures
+    let m = c1 .before .before .before .before in
+    by (node-row (m .before .before .before .before .before .before .before .pre .1) (m .before .before .kind-at .ensures) (rowed-rest _ (m .before .if1 .left) (m .match .rest .0 .0 .0 .0 .0 .0 .1) (m .match .rest .0 .0 .0 .0 .0 .1) (m .match .rest .0 .0 .0 .0 .1) (m .match .rest .0 .0 .0 .1) (m .match .rest .0 .0 .1) (m .match .rest .0 .1))) (c1 .row .ensures)
+
+row-asked : (t : ℕ) → lts.Need-row-requires (node-claims t) (node-at t) node.Post
+row-asked t c κs =
+    let m = c .before .before .before in
+    let s = m .before .before .before .before .before .before .before in
+    (omega (arith, s .pre .0), (s .pre .1, rowed-small _ _ (m .before .before .kind-at .ensures) (rowed-rest _ (m .before .if1 .left) (m .match .rest .0 .0 .0 .0 .0 .0 .1) (m .match .rest .0 .0 .0 .0 .0 .1) (m .match .rest .0 .0 .0 .0 .1) (m .match .rest .0 .0 .0 .1) (m .match .rest .0 .0 .1) (m .match .rest .0 .1))))
 
 pub node-closed : {M : Type 1} (t : ℕ) → lts.Closed (node-claims t) (node-at t) node.Post M
 node-closed t =
@@ -111,10 +121,10 @@ node-closed t =
     (λ c κs. search needs)  -- comp-requires
     (λ c κs. search needs)  -- list-requires-2
     (λ c κs. search needs)  -- args-requires
-    (λ c κs. search needs)  -- arg-requires
-    (λ c κs. search needs)  -- bind-requires
-    (λ c κs. search needs)  -- member-requires
-    (λ c κs. search needs)  -- row-requires
+    (arg-asked t)  -- arg-requires
+    (bind-asked t)  -- bind-requires
+    (member-asked t)  -- member-requires
+    (row-asked t)  -- row-requires
     (λ c. returns-2 t c .sameRecords)  -- same-length-3
     (λ c. returns-2 t c .sameTexts)  -- same-length-4
     (returns-2 t)  -- returns-2

@@ -1,0 +1,65 @@
+-- The laws of an element: which printer prints it, by its kind.
+use mathlib.Core.Path.{_≡_, refl, sym, ap, _∙_}
+use mathlib.Core.Bool.{Bool, true, false, cond, _||_, false≢true}
+use mathlib.Core.List.{List}
+use Prim.Native.Nat.{ℕ, _<_, _≤_}
+use native.Mathlib.Omega.{arith}
+use lib.Dec.{leb, eqb}
+use borrow.Author.Tests.{ne-eqb, lt-leb, leb-false, eqb-false}
+use Rattle.items.specs.Item.{Print, _⨟_, newline, text, say, lit}
+use Rattle.tree.specs.Tree.{Part}
+use Rattle.tree.specs.declared.class.Class.the-variants as Class
+use Rattle.tree.specs.Class.{first}
+use Rattle.tree.specs.Index.{kindAt, textAt}
+use Rattle.children.specs.Reading.{enclosed}
+use Rattle.printer.specs.Layout.{layout}
+use Rattle.printer.specs.Print.{element, expression, list, localOf, comprehension, arguments, row}
+use Rattle.printer.specs.Under.{At, under, printOf, partsOf, node-is}
+
+-- a kind with a row, as `element` asks for it
+pub record Rowed (k : ℕ) : Type 0 where
+  pub small : k < 64
+  pub visibility : k ≡ 56 → ⊥
+  pub expr : k ≡ 2 → ⊥
+  pub array : k ≡ 10 → ⊥
+  pub local : k ≡ 22 → ⊥
+  pub comp : k ≡ 26 → ⊥
+  pub members : k ≡ 27 → ⊥
+  pub args : k ≡ 47 → ⊥
+
+-- a kind that is none of those with printers of their own
+pub rowed-rest : (k : ℕ) → (leb 64 k || eqb k 56) ≡ false → (k ≡ 2 → ⊥) → (k ≡ 10 → ⊥) → (k ≡ 22 → ⊥) → (k ≡ 26 → ⊥) → (k ≡ 27 → ⊥) → (k ≡ 47 → ⊥) → Rowed k
+rowed-rest k h a b c d e f = go (leb 64 k) refl (eqb k 56) refl h
+  where
+    go : (u : Bool) → leb 64 k ≡ u → (v : Bool) → eqb k 56 ≡ v → (u || v) ≡ false → Rowed k
+    go true p v q h = absurd (false≢true (sym h))
+    go false p true q h = absurd (false≢true (sym h))
+    go false p false q h = record { small = leb-false 64 k p; visibility = eqb-false k 56 q; expr = a; array = b; local = c; comp = d; members = e; args = f }
+
+-- the kind of an argument
+pub rowed-arg : (k : ℕ) → k ≡ 48 → Rowed k
+rowed-arg k e = record { small = omega arith; visibility = λ h. omega arith; expr = λ h. omega arith; array = λ h. omega arith; local = λ h. omega arith; comp = λ h. omega arith; members = λ h. omega arith; args = λ h. omega arith }
+
+-- a kind with a row is a node's
+pub rowed-small : (index : List ℕ) (i : ℕ) {k : ℕ} → k ≡ kindAt index i → Rowed k → kindAt index i < 64
+rowed-small index i e r = rw e at (r .small)
+
+module _ {image index : List ℕ} {i k : ℕ} (t : At image index i) (e : k ≡ kindAt index i) where
+  -- a token, or all tokens of a node joined
+  pub node-token : (leb 64 k || eqb k 56) ≡ true → printOf image i ≡ say (text (textAt index image i))
+  unfolding element
+  node-token h = node-is t ∙ rw (← e) (go (leb 64 k) (eqb k 56) _ h)
+    where
+      go : (a b : Bool) (p : Print) → (a || b) ≡ true → cond a (say (text (textAt index image i))) (cond b (say (text (textAt index image i))) p) ≡ say (text (textAt index image i))
+      go true b p h = refl
+      go false true p h = refl
+      go false false p h = absurd (false≢true h)
+
+  -- a node with a printer of its own: the kind computes
+  pub node-own : (n : ℕ) → k ≡ n → printOf image i ≡ element (under image i) n i (textAt index image i) (textAt index image i) (partsOf index image i)
+  node-own n h = node-is t ∙ rw (← e, h)
+
+  -- a node with a row
+  pub node-row : Rowed k → printOf image i ≡ row (under image i) (partsOf index image i) (layout (kindAt index i))
+  unfolding element
+  node-row r = node-is t ∙ rw (← e, lt-leb 64 k (r .small), ne-eqb k 56 (r .visibility), ne-eqb k 2 (r .expr), ne-eqb k 10 (r .array), ne-eqb k 22 (r .local), ne-eqb k 26 (r .comp), ne-eqb k 27 (r .members), ne-eqb k 47 (r .args))
