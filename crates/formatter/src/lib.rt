@@ -38,8 +38,8 @@ pub enum Answer {
 // Words of a record.
 const RECORD: usize = 3;
 
-// Numbers of the index of the largest tree: an entry for each of 4,096 elements, and one for the end.
-const TABLE: usize = 12_291;
+// Numbers of the index of the largest tree: three for each of 4,096 elements, and three for the end.
+const TABLE: usize = 3 * 4_096 + 3;
 
 // Prints the source file of a tree image into the lent buffers, or says why not and leaves them as they are.
 pub fn print_items(image: &[u8], records: &mut [u32], texts: &mut [u8]) -> Answer
@@ -110,6 +110,7 @@ fn write_items(
     if texts.len() < c.texts as usize {
         return Answer::TextsTooShort;
     }
-    print_source(records, texts, image, index, items::start());
+    let start = items::start();
+    print_source(records, texts, image, index, start);
     Answer::Printed(c)
 }
