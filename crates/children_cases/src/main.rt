@@ -1,165 +1,30 @@
-// Surveys and walks the readings of data/vectors.bin by crate `children`, strict and loose, with and without a trailing
-// list, and prints how many come to what the file says.
+// Surveys and walks all sequences of up to seven elements by crate `children`, strict and loose, with and without a
+// trailing list, and prints how many readings of each length come to the stored digest, and how many sequences of a
+// sample come to the stored answers.
+mod answer;
+mod sequence;
+
+use answer::BASIS;
+use answer::Digests;
+use answer::basis;
+use answer::mix;
+use answer::mix_answers;
 use cases::byte;
 use cases::field;
 use cases::field_end;
 use cases::line;
-use children::gap::AT_CHILD;
-use children::gap::AT_END;
-use children::gap::Span;
-use children::gap::gap;
-use children::gap::lead;
-use children::newlines::blank_line;
-use children::newlines::newlines_at;
-use children::newlines::waiting_newlines;
-use children::survey::Outline;
-use children::survey::survey;
-use children::survey::survey_after;
-use tree::Tested;
-use tree::access::end_at;
-use tree::access::kind_at;
-use tree::class::Class;
-use tree::class::Kinds;
-use tree::class::is;
-use tree::class::kinds_of;
-ghost use mathlib.Core.Path.{_≡_};
-ghost use mathlib.Core.Bool.{true};
-ghost use Prim.Native.Nat.{_<_, _≤_};
+use sequence::LONGEST;
+use sequence::spell;
+ghost use Prim.Native.Nat.{_+_, _<_, _≤_, min};
 ghost use lib.ListN.{length};
-ghost use Rattle.tree.specs.Index.{Indexed, Region};
-ghost use Rattle.children.specs.Spans.{Surveying};
 
-// Room for an index and for the file.
-const TABLE: usize = 64;
+// Room for the digests and for the sample.
+const STORED: usize = 128;
 
-const FILE: usize = 524288;
+const SAMPLE: usize = 131072;
 
-// Stands behind a list in a digest.
-const SIGN: u32 = 255;
-
-// A number more in a digest.
-fn mix(h: u32, x: u32) -> u32 {
-    let n = (h as u64 * 31 + x as u64) % 4294967291;
-    n as u32
-}
-
-fn bit(b: bool) -> u32 {
-    if b { 1 } else { 0 }
-}
-
-// The numbers of the siblings of these kinds from a on that begin before b.
-fn mix_all(table: &[u32], w: Kinds, a: u32, b: u32, h: u32) -> u32 {
-    let mut n = h;
-    let mut j = a;
-    while j < b {
-        if is(w, kind_at(table, j)) {
-            n = mix(n, j);
-        }
-        let next = end_at(table, j);
-        if next <= j {
-            return n;
-        }
-        j = next;
-    }
-    n
-}
-
-fn mix_inline(table: &[u32], s: Span, h: u32) -> u32 {
-    mix(
-        mix_all(table, kinds_of(Class::Trivia), s.from, s.cut, h),
-        SIGN,
-    )
-}
-
-fn mix_waiting(table: &[u32], s: Span, h: u32) -> u32 {
-    let n = mix_all(table, kinds_of(Class::CustomError), s.from, s.cut, h);
-    let notes = Kinds {
-        lo: 64,
-        hi: 72,
-        but: 0,
-    };
-    mix(mix_all(table, notes, s.cut, s.to, n), SIGN)
-}
-
-fn is_foreign(o: Outline) -> bool {
-    o.last.end != AT_END
-}
-
-// What a survey says: the foreign element, or the children, many lines, the ending's blank line and its trivia.
-fn mix_outline(table: &[u32], o: Outline) -> u32 {
-    let last = o.last;
-    if is_foreign(o) {
-        return mix(1, last.to);
-    }
-    let n = mix(mix(mix(2, o.children), bit(o.many)), bit(o.blank));
-    mix_waiting(table, last, n)
-}
-
-// The children from the one behind a gap on: number, blank line, many lines, what waited, what is inline.
-fn mix_walk(table: &[u32], text: &[u8], w: Kinds, loose: bool, first: Span, b: u32, h: u32) -> u32
-    requires { ⌜ Surveying (now table) (now text) b first 0 ⌝ }
-{
-    let mut s = first;
-    let mut n = h;
-    while s.end == AT_CHILD {
-        n = mix(mix(n, s.to), bit(blank_line(table, text, s)));
-        n = mix(n, bit(newlines_at(table, text, s) >= 1));
-        n = mix_waiting(table, s, n);
-        s = gap(table, text, w, loose, true, end_at(table, s.to), b);
-        n = mix_inline(table, s, n);
-    }
-    n
-}
-
-// A reading with no trailing list.
-fn plain(table: &[u32], text: &[u8], loose: bool, a: u32, b: u32) -> u32
-    requires { ⌜ Region (now table) (now text) a b ⌝ }
-{
-    let w = kinds_of(Class::Expr);
-    let o = survey(table, text, w, loose, a, b);
-    let n = mix_outline(table, o);
-    if is_foreign(o) {
-        return n;
-    }
-    let s = gap(table, text, w, loose, false, a, b);
-    mix_walk(table, text, w, loose, s, b, n)
-}
-
-// A reading whose trailing list is what waits in the first gap of the reading without one.
-fn trailing(table: &[u32], text: &[u8], loose: bool, a: u32, b: u32) -> u32
-    requires { ⌜ Region (now table) (now text) a b ⌝ }
-{
-    let w = kinds_of(Class::Expr);
-    let t = gap(table, text, w, loose, false, a, b);
-    let o = survey_after(table, text, w, loose, t, a, b);
-    let n = mix_outline(table, o);
-    if is_foreign(o) {
-        return n;
-    }
-    let s = lead(table, text, w, loose, a, b);
-    if s.end != AT_CHILD {
-        return n;
-    }
-    let many = waiting_newlines(table, text, t) >= 1;
-    let m = mix_waiting(table, t, mix(mix(n, s.to), bit(many)));
-    let next = gap(table, text, w, loose, true, end_at(table, s.to), b);
-    mix_walk(table, text, w, loose, next, b, mix_inline(table, next, m))
-}
-
-// The image passed the tests, and the table holds its index.
-fn indexed(image: &[u8], table: &mut [u32]) -> bool
-    ensures { λ r. ⌜ (r ≡ true → Indexed (now (image .entry)) (now (table .exit))) ⌝ }
-{
-    let t = tree::refusal(image);
-    let Tested::Accepted { elements, bytes: _ } = t else {
-        return false;
-    };
-    if table.len() < (elements as usize) * 3 + 3 {
-        return false;
-    }
-    tree::index::index(image, table);
-    true
-}
+// How many sequences of each length there are.
+const COUNTS: [u32; 8] = [1, 10, 100, 1000, 10000, 100000, 1000000, 10000000];
 
 fn wide(b: u8) -> u64
     ensures { λ r. ⌜ r < 256 ⌝ }
@@ -167,75 +32,152 @@ fn wide(b: u8) -> u64
     b as u64
 }
 
-// The four bytes of the k-th digest, the lowest first.
-fn digest(want: &[u8], k: u8) -> u64 {
-    let at = (k as usize) * 4;
-    wide(byte(want, at))
-        + 256 * wide(byte(want, at + 1))
-        + 65536 * wide(byte(want, at + 2))
-        + 16777216 * wide(byte(want, at + 3))
+fn number(b: u8) -> u32 {
+    b as u32
 }
 
-fn same(h: u32, want: &[u8], k: u8) -> bool {
-    h as u64 == digest(want, k)
-}
-
-// The four readings of the children of the first element come to what the file says.
-fn answers(image: &[u8], table: &[u32], want: &[u8]) -> bool
-    requires { ⌜ Indexed (now image) (now table) ⌝ }
+fn count(b: bool) -> u64
+    ensures { λ r. ⌜ r ≤ 1 ⌝ }
 {
-    let node: u32 = 0;
-    if tree::element_count(image) <= node {
+    if b { 1 } else { 0 }
+}
+
+// The four answers to sequence k of n elements, behind what the digests hold.
+fn mix_number(n: usize, k: u32, d: Digests) -> Digests
+    requires { ⌜ n ≤ 7 ⌝ }
+{
+    let mut word = [0u8; LONGEST];
+    spell(k, &mut word);
+    mix_answers(&word[..n], d)
+}
+
+// The answers to the sequences of n elements up to a number.
+fn all_of(n: usize, total: u32) -> Digests
+    requires { ⌜ n ≤ 7 ⌝ }
+{
+    let mut d = basis();
+    let mut k: u32 = 0;
+    while k < total {
+        d = mix_number(n, k, d);
+        k += 1;
+    }
+    d
+}
+
+// The digest at a place: four bytes, the lowest first.
+fn stored(v: &[u8], at: usize) -> u64
+    requires { ⌜ at < 256 ⌝ }
+{
+    wide(byte(v, at))
+        + 256 * wide(byte(v, at + 1))
+        + 65536 * wide(byte(v, at + 2))
+        + 16777216 * wide(byte(v, at + 3))
+}
+
+// How many of the four digests of the sequences of n elements are those that are stored.
+fn agreeing(v: &[u8], n: usize, total: u32) -> u64
+    requires { ⌜ n ≤ 7 ⌝ }
+{
+    let d = all_of(n, total);
+    let at = n * 16;
+    let p = d.strict as u64 == stored(v, at);
+    let q = d.loose as u64 == stored(v, at + 4);
+    let r = d.strict_after as u64 == stored(v, at + 8);
+    let s = d.loose_after as u64 == stored(v, at + 12);
+    count(p) + count(q) + count(r) + count(s)
+}
+
+fn compare(v: &[u8], n: usize, total: u32)
+    requires { ⌜ n ≤ 7 ⌝ }
+{
+    line(b"length", n as u64);
+    line(b"  sequences", total as u64);
+    line(b"  readings that agree", agreeing(v, n, total));
+}
+
+fn compare_all(v: &[u8]) {
+    let mut n = 0;
+    while n <= LONGEST {
+        compare(v, n, COUNTS[n]);
+        n += 1;
+    }
+}
+
+// The digest of an answer.
+fn digest(answer: &[u8]) -> u32 {
+    let mut h = BASIS;
+    let mut i = 0;
+    while i < answer.len() {
+        h = mix(h, number(answer[i]));
+        i += 1;
+    }
+    h
+}
+
+// The sequence that begins at `at` in the sample has the four answers that stand behind it.
+fn agrees(v: &[u8], at: usize) -> bool {
+    let word = field(v, at);
+    if LONGEST < word.len() {
         return false;
     }
-    let a = node + 1;
-    let b = end_at(table, node);
-    let p = same(plain(table, image, false, a, b), want, 0);
-    let q = same(plain(table, image, true, a, b), want, 1);
-    let r = same(trailing(table, image, false, a, b), want, 2);
-    let s = same(trailing(table, image, true, a, b), want, 3);
+    let d = mix_answers(word, basis());
+    let a = field_end(v, at);
+    let b = field_end(v, a);
+    let c = field_end(v, b);
+    let p = d.strict == digest(field(v, a));
+    let q = d.loose == digest(field(v, b));
+    let r = d.strict_after == digest(field(v, c));
+    let s = d.loose_after == digest(field(v, field_end(v, c)));
     p & q & r & s
 }
 
-fn agrees(image: &[u8], want: &[u8]) -> bool {
-    let mut table = [0u32; TABLE];
-    if !indexed(image, &mut table) {
-        return false;
-    }
-    answers(image, &table, want)
+// Where the sequence that begins at `at` in the sample ends with its answers.
+fn case_end(v: &[u8], at: usize) -> usize
+    ensures { λ r. ⌜ min (at + 1) (length (now (v .entry))) ≤ r ⌝ }
+    ensures { λ r. ⌜ r ≤ length (now (v .entry)) ⌝ }
+{
+    let a = field_end(v, at);
+    let b = field_end(v, a);
+    let c = field_end(v, b);
+    let d = field_end(v, c);
+    field_end(v, d)
 }
 
-fn add(n: u64, b: bool) -> u64 {
-    if b {
-        std::num::wrapping_add_u64(n, 1)
-    } else {
-        n
-    }
-}
-
-// How many sequences there are, and how many agree.
+// How many sequences a sample has, how many agree, and how many do so before the first that does not.
 struct Agreement {
     seen: u64,
     right: u64,
+    before: u64,
+}
+
+fn counted(a: Agreement, agrees: bool) -> Agreement {
+    let unbroken = a.before == a.seen;
+    Agreement {
+        seen: std::num::wrapping_add_u64(a.seen, 1),
+        right: std::num::wrapping_add_u64(a.right, count(agrees)),
+        before: std::num::wrapping_add_u64(a.before, count(agrees & unbroken)),
+    }
 }
 
 fn replayed(v: &[u8]) -> Agreement {
-    let mut seen: u64 = 0;
-    let mut right: u64 = 0;
+    let mut a = Agreement {
+        seen: 0,
+        right: 0,
+        before: 0,
+    };
     let mut at = 0;
     while at < v.len() {
-        let want = field_end(v, at);
-        seen = add(seen, true);
-        right = add(right, agrees(field(v, at), field(v, want)));
-        at = field_end(v, want);
+        a = counted(a, agrees(v, at));
+        at = case_end(v, at);
     }
-    Agreement { seen, right }
+    a
 }
 
 fn replay(v: &[u8]) {
-    let r = replayed(v);
-    line(b"sequences", r.seen);
-    line(b"  all four readings agree", r.right);
+    let a = replayed(v);
+    line(b"sample", a.seen);
+    line(b"  sequences that agree", a.right);
+    line(b"  before the first that does not", a.before);
 }
 
 // Reads a file into a buffer and says how long it is.
@@ -253,7 +195,10 @@ fn load(path: &[u8], buffer: &mut [u8]) -> usize
 }
 
 fn main() {
-    let mut file = [0u8; FILE];
-    let n = load(b"vectors.bin", &mut file);
-    replay(&file[..n]);
+    let mut digests = [0u8; STORED];
+    let n = load(b"digests.bin", &mut digests);
+    compare_all(&digests[..n]);
+    let mut sample = [0u8; SAMPLE];
+    let m = load(b"sample.bin", &mut sample);
+    replay(&sample[..m]);
 }

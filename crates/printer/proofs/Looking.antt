@@ -23,14 +23,14 @@ use Rattle.printer.specs.Reads.{partFor, Has}
 
 -- ---- what was found
 
-module _ {index image : List ℕ} {i a b : ℕ} (p : a ≡ i + 1) (q : b ≡ endAt index i) where
+module _ (index image : List ℕ) (i : ℕ) {a b : ℕ} (p : a ≡ i + 1) (q : b ≡ endAt index i) where
   -- the n-th part of a class
-  pub nth-found : {w : Kinds} {c : Class} {n m : ℕ} {f : Option ℕ} → w ≡ kinds c → m ≡ n → f ≡ numberOf (nthOf w m (partsFrom index image a b)) → f ≡ numberOf (nth c n (partsOf index image i))
-  nth-found e g h = h ∙ rw (e, g, p, q)
+  pub nth-found : {w : Kinds} (c : Class) {n m : ℕ} {f : Option ℕ} → w ≡ kinds c → m ≡ n → f ≡ numberOf (nthOf w m (partsFrom index image a b)) → f ≡ numberOf (nth c n (partsOf index image i))
+  nth-found c e g h = h ∙ rw (e, g, p, q)
 
   -- the last part of a class
-  pub last-found : {w : Kinds} {c : Class} {f : Option ℕ} → w ≡ kinds c → f ≡ numberOf (lastOf w (partsFrom index image a b)) → f ≡ numberOf (last c (partsOf index image i))
-  last-found e h = h ∙ rw (e, p, q)
+  pub last-found : {w : Kinds} (c : Class) {f : Option ℕ} → w ≡ kinds c → f ≡ numberOf (lastOf w (partsFrom index image a b)) → f ≡ numberOf (last c (partsOf index image i))
+  last-found c e h = h ∙ rw (e, p, q)
 
 -- the part of an entry: the wanted one
 pub part-wanted : (x : Entry) (ps : List Part) {f : Option ℕ} → x .what ≡ 4 → f ≡ numberOf (nth (wantAt (x .want) .class) (wantAt (x .want) .place) ps) → f ≡ numberOf (partFor x ps)
@@ -38,9 +38,9 @@ unfolding partFor
 part-wanted x ps e h = h ∙ rw (eq-eqb (x .what) 4 e)
 
 -- the `+` of a field
-pub part-plus : (x : Entry) {index image : List ℕ} {i a b : ℕ} {f : Option ℕ} → (x .what ≡ 4 → ⊥) → a ≡ i + 1 → b ≡ endAt index i → f ≡ numberOf (plusOf (partsFrom index image a b)) → f ≡ numberOf (partFor x (partsOf index image i))
+pub part-plus : (x : Entry) (index image : List ℕ) (i : ℕ) {a b : ℕ} {f : Option ℕ} → (x .what ≡ 4 → ⊥) → a ≡ i + 1 → b ≡ endAt index i → f ≡ numberOf (plusOf (partsFrom index image a b)) → f ≡ numberOf (partFor x (partsOf index image i))
 unfolding partFor
-part-plus x e p q h = h ∙ rw (ne-eqb (x .what) 4 e, p, q)
+part-plus x index image i e p q h = h ∙ rw (ne-eqb (x .what) 4 e, p, q)
 
 -- the first of two that is there
 pub or-found : (x y : Option Part) {f g h : Option ℕ} → f ≡ numberOf x → g ≡ numberOf y → h ≡ orElse f g → h ≡ numberOf (orElse x y)
@@ -133,5 +133,5 @@ pub ends-has : {image index : List ℕ} {i a b : ℕ} {s e : Option ℕ} → At 
 ends-has t p q x y = rw (p, q) (record { region = at-region t refl refl; starts = x .part; ends = y .part })
 
 -- its bounds by the parts that were found
-pub bounded-as : {image index : List ℕ} {i a b : ℕ} {s e s′ e′ : Option ℕ} {z : Bounds} → a ≡ i + 1 → b ≡ endAt index i → s ≡ s′ → e ≡ e′ → Bounded index image a b s e z → Bounded index image (i + 1) (endAt index i) s′ e′ z
-bounded-as p q x y h = rw (← p, ← q, ← x, ← y) h
+pub bounded-as : {image index : List ℕ} (i : ℕ) {a b : ℕ} {s e s′ e′ : Option ℕ} {z : Bounds} → a ≡ i + 1 → b ≡ endAt index i → s ≡ s′ → e ≡ e′ → Bounded index image a b s e z → Bounded index image (i + 1) (endAt index i) s′ e′ z
+bounded-as i p q x y h = rw (← p, ← q, ← x, ← y) h

@@ -3,7 +3,7 @@ use mathlib.Core.Path.{_≡_, refl, sym, ap, _∙_}
 use mathlib.Core.Bool.{Bool, true, false, cond, not, _||_, _&&_, false≢true}
 use mathlib.Core.Option.{Option, none as nothing, some}
 use mathlib.Core.List.{List, [], _∷_, flatten}
-use Prim.Native.Nat.{ℕ, suc, _+_, _-_, _<_, _≤_}
+use Prim.Native.Nat.{ℕ, suc, _+_, _*_, _-_, _<_, _≤_}
 use Prim.Native.String.{String}
 use native.Mathlib.Omega.{arith}
 use lib.Dec.{leb, eqb}
@@ -17,6 +17,7 @@ use Rattle.items.specs.Machine.{Held, Prints}
 use Rattle.items.specs.Laws.{_▸_, by, idle}
 use Rattle.tree.specs.Tree.{Part}
 use Rattle.tree.specs.declared.class.Class.{Class}
+use Rattle.tree.specs.declared.class.Kinds.{Kinds}
 use Rattle.tree.specs.Class.{kinds, oneOf, nth, plusOf, isPlus, numberOf}
 use Rattle.tree.specs.Index.{kindAt, endAt, partAt, partsFrom, Region}
 use Rattle.tree.specs.Parts.{region-part, region-past, region-next, parts-over}
@@ -29,7 +30,7 @@ use Rattle.printer.specs.Layout.{What, Piece, asked, layout, rows}
 use Rattle.printer.specs.Print.{partOr, eachOf, what, row}
 use Rattle.printer.specs.Rows.{words, wordAt, wordOrNone, wantAt, whatOf, pieceOf, pieces, pieceAt, settled, Coded, RowOf}
 use Rattle.printer.specs.Seq.{Goes, goes-none, goes-more, goes-all, seq-assoc, none-first, none-last}
-use Rattle.printer.specs.Under.{At, Kid, under, partsOf, printOf, kid-of, kid-found, kid-print, at-region}
+use Rattle.printer.specs.Under.{At, Kid, under, partsOf, printOf, size, kid-of, kid-found, kid-print, kid-less, at-region}
 use Rattle.printer.specs.Reads.{numberOr, part-number, partFor, Has, behind-kid}
 
 -- ---- the pieces of a row in turn
@@ -57,6 +58,10 @@ module _ {image index : List ℕ} {i : ℕ} {o : Held} where
         few = r .few;
         goes = rw s (goes-more (r .goes) (rw (q, drop-cons pieces n (Layout.t "") (omega (arith, pieces-count, r .few)))) p);
       }
+
+  -- the next piece is one of the table
+  pub rowing-in : {end n : ℕ} {a : Held} → Rowing image index i end o a n → n < end → n < 145
+  rowing-in r h = omega (arith, r .few)
 
   pub rowing-all : {end n : ℕ} {a : Held} → Rowing image index i end o a n → end ≤ n → Prints (row (under image i) (partsOf index image i) (layout (kindAt index i))) o a
   unfolding row
@@ -126,6 +131,14 @@ piece-part pr ps x t h g = go (eqb (x .what) 4) refl (eqb (x .word) 0) refl t (o
 
 -- ---- parts that were found
 
+-- a part that was found is a child
+pub found-kid : {image index : List ℕ} {i : ℕ} (j : ℕ) {n : Option ℕ} → At image index i → Has (partsOf index image i) n → n ≡ some j → Kid image index i j
+found-kid j a h e = kid-found a (h .part j e)
+
+-- a child has fewer elements under it, whatever the ranks
+pub kid-falls : {image index : List ℕ} {i j t : ℕ} (r : ℕ) → Kid image index i j → size index i * 6 + r ≡ t → size index j * 6 + 5 < t
+kid-falls r k e = omega (arith, kid-less k)
+
 -- it prints what the child with its number prints
 pub number-found : {image index : List ℕ} {i j : ℕ} (p : Print) {n : Option ℕ} → n ≡ some j → Kid image index i j → numberOr (under image i) p n ≡ printOf image j
 unfolding numberOr
@@ -136,6 +149,10 @@ unfolding numberOr
 number-none pr p e = rw e
 
 -- ---- all parts of a class
+
+-- the test of a class, as the code makes it
+pub class-tested : (c : Class) {w : Kinds} {k n : ℕ} {r b : Bool} → r ≡ oneOf w k → w ≡ kinds c → k ≡ n → r ≡ b → oneOf (kinds c) n ≡ b
+class-tested c e f g h = rw (← f, ← g, ← e) h
 
 module _ (pr : ℕ → Print) (c : Class) (s : String) (ended : Bool) where
   -- a part of another class

@@ -11,8 +11,14 @@ main-spec =
     (λ c. search needs)  -- slice-aggregate-load
     (λ c. search needs)  -- slice-aggregate-load-2
     (λ c κs. search needs)  -- load-requires
-    (λ c. search needs)  -- array-share-prefix-file
-    (λ c. sym (length-take-le _ _ (c .before .before .load .ensures)))  -- slice-aggregate-replay
+    (λ c. search needs)  -- array-share-prefix-digests
+    (λ c. sym (length-take-le _ _ (c .before .before .load .ensures)))  -- slice-aggregate-compare-all
+    (λ c κs. search needs)  -- compare-all-requires
+    (λ c. search needs)  -- slice-aggregate-load-3
+    (λ c. search needs)  -- slice-aggregate-load-4
+    (λ c κs. search needs)  -- load-requires-2
+    (λ c. search needs)  -- array-share-prefix-sample
+    (λ c. sym (length-take-le _ _ (c .before .before .load2 .ensures)))  -- slice-aggregate-replay
     (λ c κs. search needs)  -- replay-requires
     (λ c. search needs)  -- returns
     )

@@ -5,10 +5,10 @@ use Rattle.children_cases.proofs.replayed.Statement.{statement}
 use Rattle.children_cases.proofs.replayed.Tie as tie
 
 abbrev Inv-loop : tie.InvT-loop
-Inv-loop v seen₀ right₀ at₀ seen right at = at ≤ length v
+Inv-loop v a₀ at₀ a at = at ≤ length v
 
 abbrev μ-loop : tie.MeasureT-loop
-μ-loop v seen₀ right₀ at₀ seen right at = length v - at
+μ-loop v a₀ at₀ a at = length v - at
 
 pub replayed-spec : {M : Type 1} → statement M
 replayed-spec =
@@ -17,13 +17,9 @@ replayed-spec =
     Inv-loop
     μ-loop
     (λ c. search needs)  -- loop-holds
-    (λ c κs. search needs)  -- field-end-requires
-    (λ c κs. search needs)  -- add-requires
-    (λ c κs. search needs)  -- field-requires
-    (λ c κs. search needs)  -- field-requires-2
     (λ c κs. search needs)  -- agrees-requires
-    (λ c κs. search needs)  -- add-requires-2
-    (λ c κs. search needs)  -- field-end-requires-2
+    (λ c κs. search needs)  -- counted-requires
+    (λ c κs. search needs)  -- case-end-requires
     (λ c. search needs)  -- loop-less
     (λ c. search needs)  -- loop-again
     (λ c. search needs)  -- returns

@@ -1,3 +1,4 @@
+use native.Mathlib.Omega.{arith}
 use borrow.Author.Needs.{needs}
 use Rattle.printer.specs.Under.{at-next}
 use Rattle.printer.proofs.look.first_in.Statement.{statement}
@@ -7,6 +8,6 @@ pub first-in-spec : {M : Type 1} → statement M
 first-in-spec =
     tie.close
     (tie.spec
-    (λ c. at-next (c .pre))  -- add-result
+    (λ c. omega (arith, at-next (c .pre)))  -- add-result
     (λ c. search needs)  -- returns
     )

@@ -5,10 +5,7 @@ use Rattle.printer.proofs.printers.+arg+args+bind+binds+body+child+comp
 use Rattle.printer.proofs.printers.+arg+args+bind+binds+body+child+comp+each+expr+items+kids+list+local+lone+member+node+one+part+piece+row+specs+values.Proof.Cycle.{bind-at, bind-claims}
 
 returns : (t : ℕ) → lts.Need-returns (bind-claims t) (bind-at t) bind.Post
-returns t c =
-    let c1 = c .before .before .before .before in
-    let s = c1 .before .before .before .before .before .before .before in
-    c1 .row .ensures
+returns t c = c .before .before .before .before .row .ensures
 
 pub bind-closed : {M : Type 1} (t : ℕ) → lts.Closed (bind-claims t) (bind-at t) bind.Post M
 bind-closed t =

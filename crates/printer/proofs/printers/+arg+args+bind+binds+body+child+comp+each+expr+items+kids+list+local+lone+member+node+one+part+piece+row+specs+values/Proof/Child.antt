@@ -1,5 +1,10 @@
 use Prim.Native.Nat.{ℕ}
 use borrow.Author.Needs.{needs}
+use native.Mathlib.Omega.{arith}
+use Rattle.items.specs.Laws.{_▸_, by}
+use Rattle.printer.specs.Under.{kid-at, kid-print}
+use Rattle.printer.proofs.Listing.{around-is}
+use Rattle.printer.proofs.Rowing.{kid-falls}
 use Rattle.printer.proofs.printers.child.Reads as child
 use Rattle.printer.proofs.printers.+arg+args+bind+binds+body+child+comp+each+expr+items+kids+list+local+lone+member+node+one+part+piece+row+specs+values.Lts-child as lts
 use Rattle.printer.proofs.printers.+arg+args+bind+binds+body+child+comp+each+expr+items+kids+list+local+lone+member+node+one+part+piece+row+specs+values.Proof.Cycle.{child-at, child-claims}
@@ -10,9 +15,12 @@ returns t c =
     let c2 = c1 .before .before .before .before .before .before .before in
     let c3 = c2 .before .before .before .before .before .before .before in
     let s = c3 .before .before .before .before .before .before .before in
-    c3 .print-above .ensures
-    ▸ c2 .node .ensures
-    ▸ c1 .print-behind .ensures
+    by (around-is _ _ _ _ _ _ _) (c3 .print-above .ensures ▸ by (kid-print (s .pre .1 .0)) (c2 .node .ensures) ▸ c1 .print-behind .ensures)
+
+node-asked : (t : ℕ) → lts.Need-node-requires (child-claims t) (child-at t) child.Post
+node-asked t c κs =
+    let s = c .before .before .before .before .before .before .before .before .before .before .before .before .before in
+    (kid-falls 0 (s .pre .1 .0) (omega (arith, s .pre .0)), kid-at (s .pre .1 .0))
 
 pub child-closed : {M : Type 1} (t : ℕ) → lts.Closed (child-claims t) (child-at t) child.Post M
 child-closed t =
@@ -21,7 +29,7 @@ child-closed t =
     (child-at t)
     child.Post
     (λ c κs. search needs)  -- print-above-requires
-    (λ c κs. search needs)  -- node-requires
+    (node-asked t)  -- node-requires
     (λ c κs. search needs)  -- print-behind-requires
     (λ c. returns t c .sameRecords)  -- same-length
     (λ c. returns t c .sameTexts)  -- same-length-2

@@ -1,4 +1,5 @@
-use Prim.Native.Nat.{ℕ, _<_}
+-- The measures of the cycle, and what each printer is given and asks of the others at a measure t.
+use Prim.Native.Nat.{ℕ, _<_, _+_, _*_}
 use borrow.Fn.Kinds.{In}
 use borrow.Fn.PlainCycle.{Measures, is, falls, and}
 use Rattle.printer.proofs.printers.arg.Reads as arg
@@ -112,13 +113,9 @@ use Rattle.tree.proofs.access.end_at.Reads as end-at-reads
 use Rattle.tree.proofs.access.kind_at.Reads as kind-at-reads
 use Rattle.tree.proofs.class.is.Reads as is-reads
 use Rattle.tree.proofs.class.kinds_of.Reads as kinds-of-reads
-use Rattle.printer.proofs.printers.+arg+args+bind+binds+body+child+comp+each+expr+items+kids+list+local+lone+member+node+one+part+piece+row+specs+values.{
-  statement,
-}
-use Rattle.printer.proofs.printers.+arg+args+bind+binds+body+child+comp+each+expr+items+kids+list+local+lone+member+node+one+part+piece+row+specs+values.Tie.{
-  close,
-}
+use Rattle.printer.specs.Under.{size}
 
+-- six times the elements under the node, and a rank: a printer that calls another at the same node has the higher one
 abbrev pub μ-arg : Measures 4 arg-kinds.ps ℕ
 μ-arg κs a = size (a .1 .1 .1 .0 .now) (a .1 .1 .1 .1 .0) * 6 + 4
 

@@ -1,22 +1,21 @@
-use Prim.Native.Nat.{ℕ}
+use Prim.Native.Nat.{ℕ, _-_}
 use borrow.Author.Needs.{needs}
+use Rattle.printer.proofs.Rowing.{Eaching, eaching-none, eaching-kid, eaching-less, eaching-more, eaching-all}
+use Rattle.items.specs.Machine.{held}
+use lib.Dec.{eqb}
+use Rattle.printer.specs.Rows.{wantAt, wordAt}
 use Rattle.printer.proofs.printers.each.Reads as each
 use Rattle.printer.proofs.printers.+arg+args+bind+binds+body+child+comp+each+expr+items+kids+list+local+lone+member+node+one+part+piece+row+specs+values.Lts-each as lts
 use Rattle.printer.proofs.printers.+arg+args+bind+binds+body+child+comp+each+expr+items+kids+list+local+lone+member+node+one+part+piece+row+specs+values.Proof.Cycle.{each-at, each-claims}
 
 abbrev Inv-loop : lts.InvT-loop
-Inv-loop records₀ texts₀ image index i x end j₀ q₀ records texts j q = ?
+Inv-loop records₀ texts₀ image index i x end j₀ q₀ records texts j q = Eaching image index i (wantAt (x .want) .class) (wordAt (x .word)) (eqb (x .what) 6) (held records₀ texts₀ q₀) (held records texts q) j
 
 abbrev μ-loop : lts.MeasureT-loop
-μ-loop records₀ texts₀ image index i x end j₀ q₀ records texts j q = ?
+μ-loop records₀ texts₀ image index i x end j₀ q₀ records texts j q = end - j
 
 returns : (t : ℕ) → lts.Need-returns (each-claims t) (each-at t) each.Post Inv-loop μ-loop
-returns t c =
-    let c1 = c .before .before in
-    let c2 = c1 .before in
-    let s = c2 .before .before .before .before .before in
-    c2 .end-at .ensures
-    ▸ c1 .first-in .ensures
+returns t c = search eaching-all
 
 pub each-closed : {M : Type 1} (t : ℕ) → lts.Closed (each-claims t) (each-at t) each.Post M
 each-closed t =
@@ -28,11 +27,11 @@ each-closed t =
     μ-loop
     (λ c κs. search needs)  -- end-at-requires
     (λ c κs. search needs)  -- first-in-requires
-    (λ c. search needs)  -- loop-holds
-    (λ c κs. search needs)  -- one-requires
+    (λ c. search eaching-none)  -- loop-holds
+    (λ c κs. (search needs, (search eaching-kid, (search needs, search needs))))  -- one-requires
     (λ c κs. search needs)  -- end-at-requires-2
-    (λ c. search needs)  -- loop-less
-    (λ c. search needs)  -- loop-again
+    (λ c. search eaching-less)  -- loop-less
+    (λ c. search eaching-more)  -- loop-again
     (λ c. returns t c .sameRecords)  -- same-length
     (λ c. returns t c .sameTexts)  -- same-length-2
     (returns t)  -- returns

@@ -1,5 +1,9 @@
 use Prim.Native.Nat.{ℕ}
 use borrow.Author.Needs.{needs}
+use native.Mathlib.Omega.{arith}
+use Rattle.items.specs.Laws.{by}
+use Rattle.printer.specs.Reads.{walks-first, items-walk}
+use Rattle.printer.proofs.Walking.{spans-as}
 use Rattle.printer.proofs.printers.items.Reads as items
 use Rattle.printer.proofs.printers.+arg+args+bind+binds+body+child+comp+each+expr+items+kids+list+local+lone+member+node+one+part+piece+row+specs+values.Lts-items as lts
 use Rattle.printer.proofs.printers.+arg+args+bind+binds+body+child+comp+each+expr+items+kids+list+local+lone+member+node+one+part+piece+row+specs+values.Proof.Cycle.{items-at, items-claims}
@@ -7,12 +11,15 @@ use Rattle.printer.proofs.printers.+arg+args+bind+binds+body+child+comp
 returns : (t : ℕ) → lts.Need-returns (items-claims t) (items-at t) items.Post
 returns t c =
     let c1 = c .before .before .before .before in
-    let c2 = c1 .before .before .before in
-    let c3 = c2 .before in
-    let s = c3 .before .before .before .before .before in
-    c3 .kinds-of .ensures
-    ▸ c2 .gap .ensures
-    ▸ c1 .kids .ensures
+    let g = c1 .before .before .before in
+    let s = g .before .before .before .before .before .before in
+    by (items-walk _ _ _ _ (spans-as (g .before .kinds-of .ensures) (g .gap .ensures)) (s .pre .1 .1)) (c1 .kids .ensures)
+
+kids-asked : (t : ℕ) → lts.Need-kids-requires (items-claims t) (items-at t) items.Post
+kids-asked t c κs =
+    let g = c .before .before in
+    let s = g .before .before .before .before .before .before in
+    (omega (arith, s .pre .0), walks-first _ (s .pre .1 .0) (spans-as (g .before .kinds-of .ensures) (g .gap .ensures)) (s .pre .1 .1))
 
 pub items-closed : {M : Type 1} (t : ℕ) → lts.Closed (items-claims t) (items-at t) items.Post M
 items-closed t =
@@ -22,7 +29,7 @@ items-closed t =
     items.Post
     (λ c κs. search needs)  -- kinds-of-requires
     (λ c κs. search needs)  -- gap-requires
-    (λ c κs. search needs)  -- kids-requires
+    (kids-asked t)  -- kids-requires
     (λ c. returns t c .sameRecords)  -- same-length
     (λ c. returns t c .sameTexts)  -- same-length-2
     (returns t)  -- returns

@@ -1,5 +1,11 @@
 use Prim.Native.Nat.{ℕ}
 use borrow.Author.Needs.{needs}
+use Rattle.printer.proofs.Rowing.{found-kid, kid-falls, number-found, number-none}
+use Rattle.items.specs.Laws.{by}
+use mathlib.Core.Path.{ap}
+use native.Mathlib.Omega.{arith}
+use Rattle.tree.specs.Answer.{found}
+use Rattle.printer.specs.Under.{kid-at}
 use Rattle.printer.proofs.printers.part.Reads as part
 use Rattle.printer.proofs.printers.+arg+args+bind+binds+body+child+comp+each+expr+items+kids+list+local+lone+member+node+one+part+piece+row+specs+values.Lts-part as lts
 use Rattle.printer.proofs.printers.+arg+args+bind+binds+body+child+comp+each+expr+items+kids+list+local+lone+member+node+one+part+piece+row+specs+values.Proof.Cycle.{part-at, part-claims}
@@ -7,14 +13,21 @@ use Rattle.printer.proofs.printers.+arg+args+bind+binds+body+child+comp
 returns : (t : ℕ) → lts.Need-returns (part-claims t) (part-at t) part.Post
 returns t c =
     let c1 = c .before .before .before .before in
-    let s = c1 .before .before .before .before .before .before .before .before .before .before in
-    c1 .node .ensures
+    let f = c1 .before .before .before .before in
+    let s = f .before .before .before .before .before .before in
+    by (number-found _ (ap found (f .f .given .1)) (found-kid _ (s .pre .1 .0) (s .pre .1 .1 .0) (ap found (f .f .given .1)))) (c1 .node .ensures)
 
 returns-2 : (t : ℕ) → lts.Need-returns-2 (part-claims t) (part-at t) part.Post
 returns-2 t c =
     let c1 = c .before .before .before .before in
-    let s = c1 .before .before .before .before .before .before .before .before .before in
-    c1 .print-optional .ensures
+    by (number-none _ _ (ap found (c1 .before .before .before .enum-told .given .1))) (c1 .print-optional .ensures)
+
+node-asked : (t : ℕ) → lts.Need-node-requires (part-claims t) (part-at t) part.Post
+node-asked t c κs =
+    let f = c .before .before .before in
+    let s = f .before .before .before .before .before .before in
+    let k = found-kid _ (s .pre .1 .0) (s .pre .1 .1 .0) (ap found (f .f .given .1)) in
+    (kid-falls 0 k (omega (arith, s .pre .0)), kid-at k)
 
 pub part-closed : {M : Type 1} (t : ℕ) → lts.Closed (part-claims t) (part-at t) part.Post M
 part-closed t =
@@ -23,7 +36,7 @@ part-closed t =
     (part-at t)
     part.Post
     (λ c. search needs)  -- enum-known-f
-    (λ c κs. search needs)  -- node-requires
+    (node-asked t)  -- node-requires
     (λ c. search needs)  -- enum-told
     (λ c κs. search needs)  -- print-optional-requires
     (λ c. returns t c .sameRecords)  -- same-length

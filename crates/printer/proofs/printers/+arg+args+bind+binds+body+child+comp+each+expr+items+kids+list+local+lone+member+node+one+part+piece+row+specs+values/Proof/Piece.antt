@@ -1,48 +1,47 @@
 use Prim.Native.Nat.{ℕ}
 use borrow.Author.Needs.{needs}
+use Rattle.printer.proofs.Rowing.{piece-unasked, piece-asked, piece-each, piece-part}
+use Rattle.items.specs.Laws.{by, idle}
+use mathlib.Core.Path.{sym, ap, _∙_}
+use native.Mathlib.Omega.{arith}
+use Rattle.printer.specs.Reads.{numberOr}
+use Rattle.printer.proofs.Looking.{part-has}
 use Rattle.printer.proofs.printers.piece.Reads as piece
 use Rattle.printer.proofs.printers.+arg+args+bind+binds+body+child+comp+each+expr+items+kids+list+local+lone+member+node+one+part+piece+row+specs+values.Lts-piece as lts
 use Rattle.printer.proofs.printers.+arg+args+bind+binds+body+child+comp+each+expr+items+kids+list+local+lone+member+node+one+part+piece+row+specs+values.Proof.Cycle.{piece-at, piece-claims}
 
 returns : (t : ℕ) → lts.Need-returns (piece-claims t) (piece-at t) piece.Post
-returns t c =
-    let c1 = c .before in
-    let c2 = c1 .before in
-    let s = c2 .before .before .before .before .before in
-    c2 .entry-at .ensures
-    ▸ c1 .is-asked .ensures
+returns t c = by (piece-unasked _ _ _ _ _ (c .before .before .entry-at .ensures) (c .before .is-asked .ensures) (c .if1 .taken)) idle
 
 returns-2 : (t : ℕ) → lts.Need-returns-2 (piece-claims t) (piece-at t) piece.Post
 returns-2 t c =
     let c1 = c .before .before .before .before in
-    let c2 = c1 .before .before .before .before .before .before in
-    let c3 = c2 .before in
-    let s = c3 .before .before .before .before .before in
-    c3 .entry-at .ensures
-    ▸ c2 .is-asked .ensures
-    ▸ c1 .fixed .ensures
+    let i1 = c1 .before .before .before .before .before in
+    by (piece-asked _ _ _ _ _ (i1 .before .before .entry-at .ensures) (i1 .before .is-asked .ensures) (i1 .if1 .left)) (c1 .fixed .ensures _ _)
 
 returns-3 : (t : ℕ) → lts.Need-returns-3 (piece-claims t) (piece-at t) piece.Post
 returns-3 t c =
     let c1 = c .before .before .before .before in
-    let c2 = c1 .before .before .before .before .before .before .before .before .before in
-    let c3 = c2 .before in
-    let s = c3 .before .before .before .before .before in
-    c3 .entry-at .ensures
-    ▸ c2 .is-asked .ensures
-    ▸ c1 .each .ensures
+    let i3 = c1 .before .before .before in
+    let i1 = i3 .before .before .before .before .before in
+    by (piece-asked _ _ _ _ _ (i1 .before .before .entry-at .ensures) (i1 .before .is-asked .ensures) (i1 .if1 .left) ∙ piece-each _ _ _ _ _ (i3 .if3 .taken)) (c1 .each .ensures)
 
 returns-4 : (t : ℕ) → lts.Need-returns-4 (piece-claims t) (piece-at t) piece.Post
 returns-4 t c =
     let c1 = c .before .before .before .before in
-    let c2 = c1 .before .before .before in
-    let c3 = c2 .before .before .before .before .before .before .before in
-    let c4 = c3 .before in
-    let s = c4 .before .before .before .before .before in
-    c4 .entry-at .ensures
-    ▸ c3 .is-asked .ensures
-    ▸ c2 .part-of .ensures
-    ▸ c1 .part .ensures
+    let f = c1 .before .before .before in
+    let i3 = f .before in
+    let i2 = i3 .before .before .before in
+    let i1 = i2 .before .before in
+    let x = i1 .before .before .entry-at .ensures in
+    by (piece-asked _ _ _ _ _ x (i1 .before .is-asked .ensures) (i1 .if1 .left) ∙ piece-part _ _ _ (x .settles) (i2 .if2 .left) (i3 .if3 .left) ∙ ap (numberOr _ _) (sym (f .part-of .ensures))) (c1 .part .ensures)
+
+part-asked : (t : ℕ) → lts.Need-part-requires (piece-claims t) (piece-at t) piece.Post
+part-asked t c κs =
+    let f = c .before .before in
+    let x = f .before .before .before .before .before .before .before .before in
+    let s = x .before .before .before .before .before in
+    (omega (arith, s .pre .0), (s .pre .1 .0, (part-has _ _ (f .part-of .ensures), x .entry-at .ensures .word)))
 
 pub piece-closed : {M : Type 1} (t : ℕ) → lts.Closed (piece-claims t) (piece-at t) piece.Post M
 piece-closed t =
@@ -62,7 +61,7 @@ piece-closed t =
     (λ c. returns-3 t c .sameTexts)  -- same-length-4
     (returns-3 t)  -- returns-3
     (λ c κs. search needs)  -- part-of-requires
-    (λ c κs. search needs)  -- part-requires
+    (part-asked t)  -- part-requires
     (λ c. returns-4 t c .sameRecords)  -- same-length-5
     (λ c. returns-4 t c .sameTexts)  -- same-length-6
     (returns-4 t)  -- returns-4

@@ -1,22 +1,19 @@
-use Prim.Native.Nat.{ℕ}
+use Prim.Native.Nat.{ℕ, _-_}
 use borrow.Author.Needs.{needs}
+use Rattle.printer.proofs.Rowing.{Rowing, rowing-none, rowing-more, rowing-in, rowing-all}
+use Rattle.items.specs.Machine.{held}
 use Rattle.printer.proofs.printers.row.Reads as row
 use Rattle.printer.proofs.printers.+arg+args+bind+binds+body+child+comp+each+expr+items+kids+list+local+lone+member+node+one+part+piece+row+specs+values.Lts-row as lts
 use Rattle.printer.proofs.printers.+arg+args+bind+binds+body+child+comp+each+expr+items+kids+list+local+lone+member+node+one+part+piece+row+specs+values.Proof.Cycle.{row-at, row-claims}
 
 abbrev Inv-loop : lts.InvT-loop
-Inv-loop records₀ texts₀ image index i end n₀ q₀ records texts n q = ?
+Inv-loop records₀ texts₀ image index i end n₀ q₀ records texts n q = Rowing image index i end (held records₀ texts₀ q₀) (held records texts q) n
 
 abbrev μ-loop : lts.MeasureT-loop
-μ-loop records₀ texts₀ image index i end n₀ q₀ records texts n q = ?
+μ-loop records₀ texts₀ image index i end n₀ q₀ records texts n q = end - n
 
 returns : (t : ℕ) → lts.Need-returns (row-claims t) (row-at t) row.Post Inv-loop μ-loop
-returns t c =
-    let c1 = c .before .before in
-    let c2 = c1 .before in
-    let s = c2 .before .before .before .before .before in
-    c2 .kind-at .ensures
-    ▸ c1 .row-of .ensures
+returns t c = search rowing-all
 
 pub row-closed : {M : Type 1} (t : ℕ) → lts.Closed (row-claims t) (row-at t) row.Post M
 row-closed t =
@@ -28,11 +25,11 @@ row-closed t =
     μ-loop
     (λ c κs. search needs)  -- kind-at-requires
     (λ c κs. search needs)  -- row-of-requires
-    (λ c. search needs)  -- loop-holds
-    (λ c κs. search needs)  -- piece-requires
+    (λ c. search rowing-none)  -- loop-holds
+    (λ c κs. (search needs, (search needs, search rowing-in)))  -- piece-requires
     (λ c. search needs)  -- add-n
     (λ c. search needs)  -- loop-less
-    (λ c. search needs)  -- loop-again
+    (λ c. search rowing-more)  -- loop-again
     (λ c. returns t c .sameRecords)  -- same-length
     (λ c. returns t c .sameTexts)  -- same-length-2
     (returns t)  -- returns

@@ -1,34 +1,46 @@
-use Prim.Native.Nat.{ℕ}
+use Prim.Native.Nat.{ℕ, _-_}
 use borrow.Author.Needs.{needs}
+use Rattle.printer.proofs.Walking.{survey-outlined, survey-foreign, walks-region, walks-less, Valuing, valuing-none, valuing-more, valuing-all, values-foreign}
+use Rattle.printer.proofs.Rowing.{kid-falls}
+use native.Mathlib.Omega.{arith}
+use Rattle.items.specs.Machine.{held}
+use Rattle.items.specs.Laws.{by}
+use Rattle.printer.specs.Under.{kid-at}
+use Rattle.printer.specs.Reads.{walks-kid}
 use Rattle.printer.proofs.printers.values.Reads as values
 use Rattle.printer.proofs.printers.+arg+args+bind+binds+body+child+comp+each+expr+items+kids+list+local+lone+member+node+one+part+piece+row+specs+values.Lts-values as lts
 use Rattle.printer.proofs.printers.+arg+args+bind+binds+body+child+comp+each+expr+items+kids+list+local+lone+member+node+one+part+piece+row+specs+values.Proof.Cycle.{values-at, values-claims}
 
 abbrev Inv-loop : lts.InvT-loop
-Inv-loop records₀ texts₀ image index i z w s₀ q₀ records texts s q = ?
+Inv-loop records₀ texts₀ image index i z w s₀ q₀ records texts s q = Valuing image index i w (z .loose) (z .to) s₀ (held records₀ texts₀ q₀) (held records texts q) s
 
 abbrev μ-loop : lts.MeasureT-loop
-μ-loop records₀ texts₀ image index i z w s₀ q₀ records texts s q = ?
+μ-loop records₀ texts₀ image index i z w s₀ q₀ records texts s q = z .to - s .to
 
 returns : (t : ℕ) → lts.Need-returns (values-claims t) (values-at t) values.Post Inv-loop μ-loop
-returns t c =
-    let c1 = c in
-    let c2 = c1 .before .before .before .before in
-    let c3 = c2 .before in
-    let s = c3 .before .before .before .before .before in
-    c3 .kinds-of .ensures
-    ▸ c2 .survey .ensures
-    ▸ c1 .stop-at .ensures
+returns t c = by (values-foreign _ (survey-foreign _ (c .before .before .before .before .before .kinds-of .ensures) (c .before .before .before .before .survey .ensures) (c .before .before .if1 .taken))) (c .stop-at .ensures _ _)
 
 returns-2 : (t : ℕ) → lts.Need-returns-2 (values-claims t) (values-at t) values.Post Inv-loop μ-loop
 returns-2 t c =
-    let c1 = c .before .before .before in
-    let c2 = c1 .before .before .before in
-    let c3 = c2 .before in
-    let s = c3 .before .before .before .before .before in
-    c3 .kinds-of .ensures
-    ▸ c2 .survey .ensures
-    ▸ c1 .gap .ensures
+    let g = c .before .before .before in
+    let i1 = g .before in
+    let o = i1 .before .before in
+    let k = o .before in
+    valuing-all _ (k .kinds-of .ensures) (g .gap .ensures) (survey-outlined _ (k .kinds-of .ensures) (o .survey .ensures) (i1 .if1 .left)) (c .before .before .loop .inv) (c .if2 .left)
+
+node-asked : (t : ℕ) → lts.Need-node-requires (values-claims t) (values-at t) values.Post Inv-loop μ-loop
+node-asked t c κs =
+    let s = c .before .before .before .before .before .before .before .before .before .before .before .before .before .before in
+    let k = walks-kid (c .before .before .before .before .loop .inv .walks) (c .before .before .if2 .taken) in
+    (kid-falls 0 k (omega (arith, s .pre .0)), kid-at k)
+
+holds : (t : ℕ) → lts.Need-loop-holds (values-claims t) (values-at t) values.Post Inv-loop μ-loop
+holds t c =
+    let i1 = c .before in
+    let o = i1 .before .before in
+    let k = o .before in
+    let s = k .before .before .before .before .before in
+    valuing-none _ (s .pre .1) (k .kinds-of .ensures) (c .gap .ensures) (survey-outlined _ (k .kinds-of .ensures) (o .survey .ensures) (i1 .if1 .left))
 
 pub values-closed : {M : Type 1} (t : ℕ) → lts.Closed (values-claims t) (values-at t) values.Post M
 values-closed t =
@@ -44,12 +56,12 @@ values-closed t =
     (λ c κs. search needs)  -- stop-at-requires
     (returns t)  -- returns
     (λ c κs. search needs)  -- gap-requires
-    (λ c. search needs)  -- loop-holds
-    (λ c κs. search needs)  -- node-requires
+    (holds t)  -- loop-holds
+    (node-asked t)  -- node-requires
     (λ c κs. search needs)  -- end-at-requires
-    (λ c κs. search needs)  -- gap-requires-2
-    (λ c. search needs)  -- loop-less
-    (λ c. search needs)  -- loop-again
+    (λ c κs. search walks-region)  -- gap-requires-2
+    (λ c. search walks-less)  -- loop-less
+    (λ c. search valuing-more)  -- loop-again
     (λ c. returns-2 t c .sameRecords)  -- same-length
     (λ c. returns-2 t c .sameTexts)  -- same-length-2
     (returns-2 t)  -- returns-2

@@ -2,8 +2,8 @@ use Prim.Native.Nat.{_-_}
 use Rattle.children.specs.Spans.{Surveying}
 use Rattle.children_cases.proofs.Walk.{walk-from, walk-region, walk-less}
 use borrow.Author.Needs.{needs}
-use Rattle.children_cases.proofs.mix_walk.Statement.{statement}
-use Rattle.children_cases.proofs.mix_walk.Tie as tie
+use Rattle.children_cases.proofs.answer.mix_walk.Statement.{statement}
+use Rattle.children_cases.proofs.answer.mix_walk.Tie as tie
 
 abbrev Inv-loop : tie.InvT-loop
 Inv-loop table text w loose b h s₀ n₀ s n = Surveying table text b s 0

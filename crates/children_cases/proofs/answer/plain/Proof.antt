@@ -1,7 +1,7 @@
 use Rattle.children_cases.proofs.Walk.{walk-from}
 use borrow.Author.Needs.{needs}
-use Rattle.children_cases.proofs.plain.Statement.{statement}
-use Rattle.children_cases.proofs.plain.Tie as tie
+use Rattle.children_cases.proofs.answer.plain.Statement.{statement}
+use Rattle.children_cases.proofs.answer.plain.Tie as tie
 
 pub plain-spec : {M : Type 1} → statement M
 plain-spec =

@@ -1,8 +1,8 @@
 use Rattle.children.specs.Uses.{lead-next}
 use Rattle.children_cases.proofs.Walk.{walk-from}
 use borrow.Author.Needs.{needs}
-use Rattle.children_cases.proofs.trailing.Statement.{statement}
-use Rattle.children_cases.proofs.trailing.Tie as tie
+use Rattle.children_cases.proofs.answer.trailing.Statement.{statement}
+use Rattle.children_cases.proofs.answer.trailing.Tie as tie
 
 pub trailing-spec : {M : Type 1} → statement M
 trailing-spec =

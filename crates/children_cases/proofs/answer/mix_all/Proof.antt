@@ -1,7 +1,7 @@
 use Prim.Native.Nat.{_-_}
 use borrow.Author.Needs.{needs}
-use Rattle.children_cases.proofs.mix_all.Statement.{statement}
-use Rattle.children_cases.proofs.mix_all.Tie as tie
+use Rattle.children_cases.proofs.answer.mix_all.Statement.{statement}
+use Rattle.children_cases.proofs.answer.mix_all.Tie as tie
 
 abbrev Inv-loop : tie.InvT-loop
 Inv-loop table w a b h n₀ j₀ n j = Unit {0}

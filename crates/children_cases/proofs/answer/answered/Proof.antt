@@ -1,10 +1,10 @@
 use borrow.Author.Tests.{not-false}
 use borrow.Author.Needs.{needs}
-use Rattle.children_cases.proofs.agrees.Statement.{statement}
-use Rattle.children_cases.proofs.agrees.Tie as tie
+use Rattle.children_cases.proofs.answer.answered.Statement.{statement}
+use Rattle.children_cases.proofs.answer.answered.Tie as tie
 
-pub agrees-spec : {M : Type 1} → statement M
-agrees-spec =
+pub answered-spec : {M : Type 1} → statement M
+answered-spec =
     tie.close
     (tie.spec
     (λ c. search needs)  -- slice-aggregate-indexed

@@ -1,0 +1,29 @@
+use mathlib.Core.Path.{_≡_}
+use Prim.Native.Nat.{_-_}
+use lib.ListN.{length}
+use borrow.Author.Needs.{needs}
+use Rattle.children_cases.proofs.sequence.put_all.Statement.{statement}
+use Rattle.children_cases.proofs.sequence.put_all.Tie as tie
+
+abbrev Inv-loop : tie.InvT-loop
+Inv-loop image₀ at s end₀ i₀ image end i = length image ≡ length image₀
+
+abbrev μ-loop : tie.MeasureT-loop
+μ-loop image₀ at s end₀ i₀ image end i = length s - i
+
+pub put-all-spec : {M : Type 1} → statement M
+put-all-spec =
+    tie.close
+    (tie.spec
+    Inv-loop
+    μ-loop
+    (λ c. search needs)  -- loop-holds
+    (λ c. search needs)  -- shared-slice-read-put
+    (λ c κs. search needs)  -- put-requires
+    (λ c κs. search needs)  -- wrapping-add-usize-requires
+    (λ c. search needs)  -- add-i
+    (λ c. search needs)  -- loop-less
+    (λ c. search needs)  -- loop-again
+    (λ c. search needs)  -- same-length
+    (λ c. search needs)  -- returns
+    )

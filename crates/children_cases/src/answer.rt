@@ -1,0 +1,226 @@
+// The answers of crate `children` to four readings of one sequence, number after number in four digests.
+use super::sequence::put_image;
+use children::gap::AT_CHILD;
+use children::gap::AT_END;
+use children::gap::Span;
+use children::gap::gap;
+use children::gap::lead;
+use children::newlines::blank_line;
+use children::newlines::newlines_at;
+use children::newlines::waiting_newlines;
+use children::survey::Outline;
+use children::survey::survey;
+use children::survey::survey_after;
+use tree::Tested;
+use tree::access::end_at;
+use tree::access::kind_at;
+use tree::class::Class;
+use tree::class::Kinds;
+use tree::class::is;
+use tree::class::kinds_of;
+ghost use mathlib.Core.Path.{_≡_};
+ghost use mathlib.Core.Bool.{true};
+ghost use Prim.Native.Nat.{_<_, _≤_};
+ghost use lib.ListN.{length};
+ghost use Rattle.tree.specs.Index.{Indexed, Region};
+ghost use Rattle.children.specs.Spans.{Surveying};
+
+// Room for an image and for its index.
+const IMAGE: usize = 128;
+
+const TABLE: usize = 32;
+
+// Stands behind a list in an answer.
+const SIGN: u32 = 255;
+
+// The digest of no number.
+pub const BASIS: u32 = 2166136261;
+
+const PRIME: u64 = 16777619;
+
+// A digest of each reading: strict, loose, and the same with a trailing list.
+pub struct Digests {
+    pub strict: u32,
+    pub loose: u32,
+    pub strict_after: u32,
+    pub loose_after: u32,
+}
+
+// The digests of no answer.
+pub fn basis() -> Digests {
+    Digests {
+        strict: BASIS,
+        loose: BASIS,
+        strict_after: BASIS,
+        loose_after: BASIS,
+    }
+}
+
+fn wide(x: u32) -> u64
+    ensures { λ r. ⌜ r < 4294967296 ⌝ }
+{
+    x as u64
+}
+
+// A number more in a digest, which is FNV-1a of 32 bits.
+pub fn mix(h: u32, x: u32) -> u32 {
+    let n = (wide(h ^ x) * PRIME) % 4294967296;
+    n as u32
+}
+
+fn bit(b: bool) -> u32 {
+    if b { 1 } else { 0 }
+}
+
+// The numbers of the siblings of these kinds from a on that begin before b.
+fn mix_all(table: &[u32], w: Kinds, a: u32, b: u32, h: u32) -> u32 {
+    let mut n = h;
+    let mut j = a;
+    while j < b {
+        if is(w, kind_at(table, j)) {
+            n = mix(n, j);
+        }
+        let next = end_at(table, j);
+        if next <= j {
+            return n;
+        }
+        j = next;
+    }
+    n
+}
+
+fn mix_inline(table: &[u32], s: Span, h: u32) -> u32 {
+    mix(
+        mix_all(table, kinds_of(Class::Trivia), s.from, s.cut, h),
+        SIGN,
+    )
+}
+
+fn mix_waiting(table: &[u32], s: Span, h: u32) -> u32 {
+    let n = mix_all(table, kinds_of(Class::CustomError), s.from, s.cut, h);
+    let notes = Kinds {
+        lo: 64,
+        hi: 72,
+        but: 0,
+    };
+    mix(mix_all(table, notes, s.cut, s.to, n), SIGN)
+}
+
+fn is_foreign(o: Outline) -> bool {
+    o.last.end != AT_END
+}
+
+// What a survey says: the foreign element, or the children, many lines, the ending's blank line and its trivia.
+fn mix_outline(table: &[u32], o: Outline, h: u32) -> u32 {
+    let last = o.last;
+    if is_foreign(o) {
+        return mix(mix(h, 1), last.to);
+    }
+    let n = mix(mix(mix(mix(h, 2), o.children), bit(o.many)), bit(o.blank));
+    mix_waiting(table, last, n)
+}
+
+// The children from the one behind a gap on: number, blank line, many lines, what waited, what is inline.
+fn mix_walk(table: &[u32], text: &[u8], w: Kinds, loose: bool, first: Span, b: u32, h: u32) -> u32
+    requires { ⌜ Surveying (now table) (now text) b first 0 ⌝ }
+{
+    let mut s = first;
+    let mut n = h;
+    while s.end == AT_CHILD {
+        n = mix(mix(n, s.to), bit(blank_line(table, text, s)));
+        n = mix(n, bit(newlines_at(table, text, s) >= 1));
+        n = mix_waiting(table, s, n);
+        s = gap(table, text, w, loose, true, end_at(table, s.to), b);
+        n = mix_inline(table, s, n);
+    }
+    n
+}
+
+// A reading with no trailing list.
+fn plain(table: &[u32], text: &[u8], loose: bool, a: u32, b: u32, h: u32) -> u32
+    requires { ⌜ Region (now table) (now text) a b ⌝ }
+{
+    let w = kinds_of(Class::Expr);
+    let o = survey(table, text, w, loose, a, b);
+    let n = mix_outline(table, o, h);
+    if is_foreign(o) {
+        return n;
+    }
+    let s = gap(table, text, w, loose, false, a, b);
+    mix_walk(table, text, w, loose, s, b, n)
+}
+
+// A reading whose trailing list is what waits in the first gap of the reading without one.
+fn trailing(table: &[u32], text: &[u8], loose: bool, a: u32, b: u32, h: u32) -> u32
+    requires { ⌜ Region (now table) (now text) a b ⌝ }
+{
+    let w = kinds_of(Class::Expr);
+    let t = gap(table, text, w, loose, false, a, b);
+    let o = survey_after(table, text, w, loose, t, a, b);
+    let n = mix_outline(table, o, h);
+    if is_foreign(o) {
+        return n;
+    }
+    let s = lead(table, text, w, loose, a, b);
+    if s.end != AT_CHILD {
+        return n;
+    }
+    let many = waiting_newlines(table, text, t) >= 1;
+    let m = mix_waiting(table, t, mix(mix(n, s.to), bit(many)));
+    let next = gap(table, text, w, loose, true, end_at(table, s.to), b);
+    mix_walk(table, text, w, loose, next, b, mix_inline(table, next, m))
+}
+
+// The image passed the tests, and the table holds its index.
+fn indexed(image: &[u8], table: &mut [u32]) -> bool
+    ensures { λ r. ⌜ (r ≡ true → Indexed (now (image .entry)) (now (table .exit))) ⌝ }
+{
+    let t = tree::refusal(image);
+    let Tested::Accepted { elements, bytes: _ } = t else {
+        return false;
+    };
+    if table.len() < (elements as usize) * 3 + 3 {
+        return false;
+    }
+    tree::index::index(image, table);
+    true
+}
+
+// The four readings of the children of the first element, behind what the digests hold.
+fn answers(image: &[u8], table: &[u32], d: Digests) -> Digests
+    requires { ⌜ Indexed (now image) (now table) ⌝ }
+{
+    let node: u32 = 0;
+    if tree::element_count(image) <= node {
+        return d;
+    }
+    let a = node + 1;
+    let b = end_at(table, node);
+    Digests {
+        strict: plain(table, image, false, a, b, d.strict),
+        loose: plain(table, image, true, a, b, d.loose),
+        strict_after: trailing(table, image, false, a, b, d.strict_after),
+        loose_after: trailing(table, image, true, a, b, d.loose_after),
+    }
+}
+
+// The same from an image. One that is refused leaves the digests as they are, so that they are not those that are stored.
+fn answered(image: &[u8], d: Digests) -> Digests {
+    let mut table = [0u32; TABLE];
+    if !indexed(image, &mut table) {
+        return d;
+    }
+    answers(image, &table, d)
+}
+
+// The same from a sequence.
+pub fn mix_answers(word: &[u8], d: Digests) -> Digests
+    requires { ⌜ length (now word) ≤ 7 ⌝ }
+{
+    let mut image = [0u8; IMAGE];
+    let end = put_image(word, &mut image);
+    if IMAGE < end {
+        return d;
+    }
+    answered(&image[..end], d)
+}

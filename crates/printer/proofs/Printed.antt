@@ -1,0 +1,134 @@
+-- What the calls of a printer leave, put together: the laws that each printer of a list, a comprehension, a local or an expression ends with.
+use mathlib.Core.Path.{_≡_, refl, sym, ap, _∙_}
+use mathlib.Core.Bool.{Bool, true, false, not, _&&_, _||_, false≢true}
+use mathlib.Core.Option.{Option, none as nothing, some}
+use mathlib.Core.List.{List, []}
+use Prim.Native.Nat.{ℕ, _+_, _<_}
+use Prim.Native.String.{String}
+use native.Mathlib.Omega.{arith}
+use lib.Dec.{eqb}
+use lib.ListN.{length}
+use Rattle.text.specs.Basic.{isNil, present, orElse}
+use Rattle.items.specs.declared.Printed.{Printed}
+use Rattle.items.specs.declared.Condition.{Condition}
+use Rattle.items.specs.Item.{newline, indent, outdent, group, Print, _⨟_, say, lit}
+use Rattle.items.specs.Signal.{conditionTest}
+use Rattle.items.specs.Machine.{Held, held, Prints, nextRun}
+use Rattle.items.specs.Laws.{by, _▸_, numbers}
+use Rattle.comments.specs.Comments.{aboveItem}
+use Rattle.tree.specs.Tree.{Part}
+use Rattle.tree.specs.declared.class.Class.{Class}
+use Rattle.tree.specs.declared.class.Class.the-variants as Class
+use Rattle.tree.specs.Class.{first, last, numberOf}
+use Rattle.tree.specs.Index.{endAt}
+use Rattle.children.specs.declared.between.Bounds.{Bounds}
+use Rattle.children.specs.declared.gap.Span.{Span}
+use Rattle.children.specs.declared.survey.Outline.{Outline}
+use Rattle.children.specs.Reading.{Reading, foreign, between, enclosed, compMembers, compSpecs}
+use Rattle.children.specs.Comments.{comments}
+use Rattle.children.specs.Spans.{gapAt}
+use Rattle.children.specs.Between.{Bounded}
+use Rattle.printer.specs.declared.lists.ListKind.{ListKind}
+use Rattle.printer.specs.declared.lists.Style.the-variants.{Elements, Arguments, Members, Specs, Binds}
+use Rattle.printer.specs.Combine.{newlineIf, testOf, ending}
+use Rattle.printer.specs.Print.{partOr, children, list, arguments, compOf, comprehension, localOf, valuesOf, expression}
+use Rattle.printer.specs.Rows.{words, wordAt, Word, wordOrNone}
+use Rattle.printer.specs.Lists.{onLine, behindIt, endingOf, openList, closeList, closeArguments, openerOf, closerOf, childOf}
+use Rattle.printer.specs.Under.{partsOf}
+use Rattle.printer.specs.Walked.{Outlined}
+use Rattle.printer.specs.Reads.{numberOr, part-number, readAt, kidsIn}
+use Rattle.printer.proofs.Listing.{list-empty, list-full, args-full, comp-members, comp-full, local-many}
+
+-- ---- readings by their bounds
+
+module _ {image index : List ℕ} (i : ℕ) where
+  -- a list's reading
+  pub list-reading : (l : ListKind) {a c d : Class} {z : Bounds} → a ≡ openerOf l → c ≡ closerOf l → d ≡ childOf l
+      → Bounded index image (i + 1) (endAt index i) (numberOf (first a (partsOf index image i))) (numberOf (first c (partsOf index image i))) z
+      → enclosed (childOf l) (openerOf l) (closerOf l) (partsOf index image i) ≡ readAt index image d z nothing
+  list-reading l {a} {c} {d} p q r b = rw (← p, ← q, ← r) (b .read d (first a (partsOf index image i)) (first c (partsOf index image i)) nothing refl refl)
+
+  -- the reading between the first tokens of two classes
+  pub enclosed-reading : (w a c : Class) {z : Bounds} → Bounded index image (i + 1) (endAt index i) (numberOf (first a (partsOf index image i))) (numberOf (first c (partsOf index image i))) z
+      → enclosed w a c (partsOf index image i) ≡ readAt index image w z nothing
+  enclosed-reading w a c b = b .read w (first a (partsOf index image i)) (first c (partsOf index image i)) nothing refl refl
+
+-- ---- texts of brackets
+
+pub left-brace : Word 7 "{"
+unfolding words
+left-brace = record { known = omega arith; text = refl }
+
+pub right-brace : Word 8 "}"
+unfolding words
+right-brace = record { known = omega arith; text = refl }
+
+pub left-paren : Word 9 "("
+unfolding words
+left-paren = record { known = omega arith; text = refl }
+
+pub right-paren : Word 10 ")"
+unfolding words
+right-paren = record { known = omega arith; text = refl }
+
+-- ---- lists
+
+module _ (pr : ℕ → Print) (a b z : String) {r q : Reading} (e : r ≡ q) where
+  pub prints-empty : {index image : List ℕ} {o : Outline} {t : Bool} {w : ℕ} {h k : Held} → Outlined index image q o → t ≡ ((eqb (o .children) 0 && not (o .blank)) && isNil (gapAt index image (o .last) .waiting)) → t ≡ true
+      → Word w a → Prints (lit (wordAt w)) h k → Prints (list pr a b z r) h k
+  prints-empty x f g w p = by (ap (list pr a b z) e ∙ list-empty pr a b z x f g ∙ ap lit (sym (w .text))) p
+
+  pub prints-list : {index image : List ℕ} {o : Outline} {y : Bool} {k w v : ℕ} (t : Condition) {rs ts : List ℕ} {p : Printed} {h₁ h₂ h₃ h₄ : Held}
+      → Outlined index image q o → y ≡ ((eqb (o .children) 0 && not (o .blank)) && isNil (gapAt index image (o .last) .waiting)) → y ≡ false → k ≡ nextRun p → conditionTest t ≡ testOf (o .many || o .blank) k → Word w b → Word v z
+      → Prints (openList (wordAt w) k (conditionTest t)) (held rs ts p) h₁ → Prints (say group) h₁ h₂
+      → Prints (children pr (onLine Elements (conditionTest t)) (behindIt Elements (conditionTest t)) (kidsIn q)) h₂ h₃ → Prints (closeList (wordAt v) k (endingOf index image o)) h₃ h₄
+      → Prints (list pr a b z r) (held rs ts p) h₄
+  prints-list t x f g n c w v p₁ p₂ p₃ p₄ =
+      by (ap (list pr a b z) e ∙ list-full pr a b z x f g) (numbers _ n (rw (← c, ← (w .text), ← (v .text)) (p₁ ▸ p₂ ▸ p₃ ▸ p₄)))
+
+pub prints-args : (pr : ℕ → Print) {r q : Reading} → r ≡ q → {index image : List ℕ} {o : Outline} {k w v : ℕ} (t : Condition) {rs ts : List ℕ} {p : Printed} {h₁ h₂ h₃ : Held}
+    → Outlined index image q o → k ≡ nextRun p → conditionTest t ≡ testOf false k → Word w "(" → Word v ")"
+    → Prints (openList (wordAt w) k (conditionTest t)) (held rs ts p) h₁ → Prints (children pr (onLine Arguments (conditionTest t)) (behindIt Arguments (conditionTest t)) (kidsIn q)) h₁ h₂
+    → Prints (closeArguments (wordAt v) k (endingOf index image o)) h₂ h₃ → Prints (arguments pr r) (held rs ts p) h₃
+prints-args pr e t x n c w v p₁ p₂ p₃ = by (ap (arguments pr) e ∙ args-full pr x) (numbers _ n (rw (← c, ← (w .text), ← (v .text)) (p₁ ▸ p₂ ▸ p₃)))
+
+-- ---- object comprehensions
+
+-- its second reading
+pub spec-reading : {image index : List ℕ} (i : ℕ) {r : Reading} {m : Outline} {z : Bounds} (x : Outlined index image r m)
+    → Bounded index image (i + 1) (endAt index i) (numberOf (orElse (last Class.MemberComp (partsOf index image i)) (first Class.LBrace (partsOf index image i)))) (numberOf (first Class.RBrace (partsOf index image i))) z
+    → compSpecs (x .ending) (partsOf index image i) ≡ readAt index image Class.CompSpec z (some (gapAt index image (m .last) .waiting))
+spec-reading i x b = b .read Class.CompSpec _ _ (some (x .ending .trivia)) refl refl ∙ rw (x .waits)
+
+pub prints-comp : (pr : ℕ → Print) (ps : List Part) {index image : List ℕ} {r q : Reading} {m o : Outline} {k w v : ℕ} (t : Condition) {rs ts : List ℕ} {p : Printed} {h₁ h₂ h₃ h₄ h₅ h₆ : Held} (x : Outlined index image r m)
+    → compSpecs (x .ending) ps ≡ q → Outlined index image q o → k ≡ nextRun p → conditionTest t ≡ testOf (m .many || (o .many || (m .blank || o .blank))) k → Word w "{" → Word v "}"
+    → Prints (openList (wordAt w) k (conditionTest t)) (held rs ts p) h₁ → Prints (say group) h₁ h₂ → Prints (children pr (onLine Members (conditionTest t)) (behindIt Members (conditionTest t)) (kidsIn r)) h₂ h₃
+    → Prints (newlineIf (m .blank)) h₃ h₄ → Prints (children pr (onLine Specs (conditionTest t)) (behindIt Specs (conditionTest t)) (kidsIn q)) h₄ h₅ → Prints (closeList (wordAt v) k (endingOf index image o)) h₅ h₆
+    → Prints (compOf pr ps r) (held rs ts p) h₆
+prints-comp pr ps {q = q} t x e y n c w v p₁ p₂ p₃ p₄ p₅ p₆ = by (comp-full pr ps x q e y) (numbers _ n (rw (← c, ← (w .text), ← (v .text)) (p₁ ▸ p₂ ▸ p₃ ▸ p₄ ▸ p₅ ▸ p₆)))
+
+-- its first reading
+pub member-reading : {image index : List ℕ} (i : ℕ) (pr : ℕ → Print) (x : Option Part) {f : Option ℕ} {b : Bool} {z : Bounds} → f ≡ numberOf x → b ≡ not (present f) → b ≡ false
+    → Bounded index image (i + 1) (endAt index i) (numberOf (first Class.LBrace (partsOf index image i))) (numberOf x) z
+    → comprehension pr i (partsOf index image i) x ≡ compOf pr (partsOf index image i) (readAt index image Class.Member z nothing)
+member-reading i pr nothing e g h b = absurd (false≢true (sym h ∙ rw e at g))
+member-reading i pr (some s) e g h b = comp-members pr _ i (some s) _ refl (λ s′ q. rw (← q) (b .read Class.Member _ (some s) nothing refl refl))
+
+-- ---- locals
+
+pub prints-binds : (pr : ℕ → Print) {r q : Reading} → r ≡ q → {index image : List ℕ} {o : Outline} (t : Condition) {h₀ h₁ h₂ h₃ : Held} → Outlined index image q o → (o .children ≡ 1 → ⊥)
+    → Prints (lit "local" ⨟ (say indent ⨟ say newline)) h₀ h₁ → Prints (children pr (onLine Binds (conditionTest t)) (behindIt Binds (conditionTest t)) (kidsIn q)) h₁ h₂
+    → Prints (ending (endingOf index image o) ⨟ say outdent) h₂ h₃ → Prints (localOf pr r) h₀ h₃
+prints-binds pr e t x h p₁ p₂ p₃ = by (ap (localOf pr) e ∙ local-many pr (conditionTest t) x h) (p₁ ▸ p₂ ▸ p₃)
+
+-- ---- expressions
+
+pub prints-expr : {image index : List ℕ} (i : ℕ) (pr : ℕ → Print) (x : Option Part) {f : Option ℕ} {y z : Bounds} {h₀ h₁ h₂ h₃ : Held} → f ≡ numberOf x
+    → Bounded index image (i + 1) (endAt index i) nothing f y → Bounded index image (i + 1) (endAt index i) f nothing z
+    → Prints (valuesOf pr (readAt index image Class.Stmt y nothing)) h₀ h₁ → Prints (numberOr pr (wordOrNone 14) f) h₁ h₂ → Prints (valuesOf pr (readAt index image Class.Suffix z nothing)) h₂ h₃
+    → Prints (expression pr (partsOf index image i) x) h₀ h₃
+unfolding expression wordOrNone words
+prints-expr i pr x e b d p₁ p₂ p₃ =
+    by (ap (valuesOf pr) (b .read Class.Stmt nothing x nothing refl (sym e))) p₁
+    ▸ by (part-number pr _ x ∙ ap (numberOr pr _) (sym e)) p₂
+    ▸ by (ap (valuesOf pr) (d .read Class.Suffix x nothing nothing (sym e) refl)) p₃

@@ -1,0 +1,128 @@
+-- The laws of a local's one bind, and of the CompSpecs of an object comprehension.
+use mathlib.Core.Path.{_≡_, refl, sym, ap, _∙_}
+use mathlib.Core.Bool.{Bool, true, false, cond}
+use mathlib.Core.Option.{Option, none as nothing, some}
+use mathlib.Core.List.{List, [], _∷_}
+use Prim.Native.Nat.{ℕ, suc, _+_, _<_, _≤_}
+use native.Mathlib.Omega.{arith}
+use lib.Dec.{eqb}
+use lib.ListN.{length}
+use borrow.Author.Tests.{eqb-true}
+use Rattle.items.specs.Item.{Print, _⨟_, none, lit}
+use Rattle.comments.specs.Comments.{aboveItem}
+use Rattle.tree.specs.Tree.{Part}
+use Rattle.tree.specs.declared.class.Class.{Class}
+use Rattle.tree.specs.declared.class.Kinds.{Kinds}
+use Rattle.tree.specs.declared.class.Class.the-variants.{Bind, CompSpec}
+use Rattle.tree.specs.Class.{kinds}
+use Rattle.tree.specs.Index.{Region, endAt, partAt, partsFrom}
+use Rattle.children.specs.declared.between.Bounds.{Bounds}
+use Rattle.children.specs.declared.gap.Span.{Span}
+use Rattle.children.specs.Reading.{Child, Ending, Reading, foreign, read}
+use Rattle.children.specs.Comments.{comments}
+use Rattle.children.specs.Gaps.{Gap, Gaps, gapOf, gaps}
+use Rattle.children.specs.Gaps as G
+use Rattle.children.specs.Whole.{childAt, closedBy, preceded, readFrom, readingOf, whole}
+use Rattle.children.specs.Lead.{Leads, leads, led, readingAfter, whole-after}
+use Rattle.children.specs.Stretch.{stretch-both}
+use Rattle.children.specs.Spans.{Spans, spanned, gapAt}
+use Rattle.children.specs.Uses.{span-child, span-reached, lead-reached}
+use Rattle.printer.specs.Print.{children, localOf}
+use Rattle.printer.specs.Under.{At, Kid, kid-of}
+use Rattle.printer.specs.Walked.{around, walked, walkedAfter, walk-after, through-lead, walk-lead, lead-none}
+use Rattle.printer.specs.Reads.{Within, Whole, readAt, kidsIn, Walks, behind-kid}
+
+-- ---- the one bind of a local
+
+foreign-read : {A : Type 0} {n : ℕ} {cs : List Child} {e : Ending} → foreign n ≡ read cs e → A
+foreign-read h = absurd (let z : _≡_ {A = ℕ} 0 1 = cc in omega arith)
+
+-- the reading from a child on has one child at least
+some-kids : (c : Child) (gs : Gaps) (ds : List Child) (e : Ending) → readFrom c gs ≡ read ds e → 1 ≤ length ds
+unfolding readFrom
+some-kids c (G.stopped n) ds e h = foreign-read h
+some-kids c (G.ending g) ds e h = let q : closedBy c g ∷ [] ≡ ds = cc in rw (← q) (omega arith)
+some-kids c (G.Gaps.child g x gs) ds e h = go (readFrom (childAt g x) gs) h
+  where
+    go : (r : Reading) → preceded (closedBy c g ∷ []) r ≡ read ds e → 1 ≤ length ds
+    go (foreign n) h = foreign-read h
+    go (read es f) h = let q : closedBy c g ∷ es ≡ ds = cc in rw (← q) (omega arith)
+
+-- the one child of gaps, by its comments and its number
+record Lone (gs : Gaps) (g : Gap) (x : Part) : Type 0 where
+  one : (pr : ℕ → Print) → localOf pr (readingOf gs) ≡ comments (g .waiting) aboveItem ⨟ (lit "local " ⨟ pr (x .number))
+
+lone-child : (g : Gap) (x : Part) (gs : Gaps) {cs : List Child} {e : Ending} → readingOf (G.Gaps.child g x gs) ≡ read cs e → length cs ≡ 1 → Lone (G.Gaps.child g x gs) g x
+unfolding readingOf readFrom localOf
+lone-child g x (G.stopped n) h l = foreign-read h
+lone-child g x (G.ending k) h l = record { one = λ pr. refl }
+lone-child g x (G.Gaps.child k y gs) {cs} {e} h l = go (readFrom (childAt k y) gs) h (some-kids (childAt k y) gs)
+  where
+    go : (r : Reading) → preceded (closedBy (childAt g x) k ∷ []) r ≡ read cs e → ((es : List Child) (f : Ending) → r ≡ read es f → 1 ≤ length es) → Lone (G.Gaps.child g x (G.Gaps.child k y gs)) g x
+    go (foreign n) h s = foreign-read h
+    go (read es f) h s = let q : closedBy (childAt g x) k ∷ es ≡ cs = cc in absurd (omega (arith, s es f refl, ap length q))
+
+-- a local with one bind: the gap before it, and its number
+module _ (pr : ℕ → Print) {image index : List ℕ} {w : Kinds} {z : Bounds} {s : Span} (k : w ≡ kinds Bind) (h : Spans index image w (z .loose) false (z .from) (z .to) s) (r : Whole (readAt index image Bind z nothing)) (l : length (kidsIn (readAt index image Bind z nothing)) ≡ 1) where
+  reads : readingOf (spanned index image w (z .loose) (z .to) s) ≡ read (r .kids) (r .ending)
+  reads = rw (← (h .read), k) (sym (whole Bind (z .loose) _) ∙ r .is)
+
+  count : length (r .kids) ≡ 1
+  unfolding kidsIn
+  count = rw (r .is) at l
+
+  -- there is a child
+  pub lone-there : s .end ≡ 0
+  unfolding spanned readingOf
+  lone-there = go (eqb (s .end) 0) refl (eqb (s .end) 1) reads
+    where
+      go : (u : Bool) → eqb (s .end) 0 ≡ u → (v : Bool)
+          → readingOf (cond u (G.Gaps.child (gapAt index image s) (partAt index image (s .to)) (gaps w (z .loose) false true (partsFrom index image (endAt index (s .to)) (z .to)))) (cond v (G.ending (gapAt index image s)) (G.stopped (s .to)))) ≡ read (r .kids) (r .ending) → s .end ≡ 0
+      go true e v q = eqb-true (s .end) 0 e
+      go false e true q = let n : [] ≡ r .kids = cc in absurd (omega (arith, count, ap length n))
+      go false e false q = foreign-read q
+
+  pub lone-is : localOf pr (readAt index image Bind z nothing) ≡ comments (gapAt index image s .waiting) aboveItem ⨟ (lit "local " ⨟ pr (s .to))
+  lone-is =
+      let c = span-child′ in
+      rw (whole Bind (z .loose) _, ← k, h .read, c) (lone-child _ _ _ (rw c at reads) count .one pr)
+    where
+      span-child′ : spanned index image w (z .loose) (z .to) s ≡ G.Gaps.child (gapAt index image s) (partAt index image (s .to)) (gaps w (z .loose) false true (partsFrom index image (endAt index (s .to)) (z .to)))
+      span-child′ = sym (h .read) ∙ span-child h lone-there
+
+-- ---- the CompSpecs of an object comprehension
+
+module _ {image index : List ℕ} {i : ℕ} {w : Kinds} {z : Bounds} {s : Span} (k : w ≡ kinds CompSpec) (n : Within image index i z) (h : Leads index image w (z .loose) (z .from) (z .to) s) where
+  -- the first is a child
+  pub spec-kid : s .end ≡ 0 → Kid image index i (s .to)
+  spec-kid e = kid-of (n .at) (stretch-both (n .reached) (lead-reached h)) (omega (arith, h .inside e, n .inside))
+
+  module _ (ts : List Part) (r : Whole (readAt index image CompSpec z (some ts))) where
+    after : readingAfter ts (leads w (z .loose) (partsFrom index image (z .from) (z .to))) ≡ read (r .kids) (r .ending)
+    after = rw k (sym (whole-after CompSpec (z .loose) ts _) ∙ r .is)
+
+    -- all of them, walked
+    walked-specs : (pr : ℕ → Print) (f g : Bool → Print) → children pr f g (kidsIn (readAt index image CompSpec z (some ts))) ≡ walkedAfter pr f g ts (led index image w (z .loose) (z .to) s)
+    unfolding kidsIn
+    walked-specs pr f g = rw (r .is, ← (h .read)) (walk-after pr f g ts _ after)
+
+    -- there is none
+    pub specs-none : (pr : ℕ → Print) (f g : Bool → Print) → (s .end ≡ 0 → ⊥) → children pr f g (kidsIn (readAt index image CompSpec z (some ts))) ≡ none
+    specs-none pr f g e = walked-specs pr f g ∙ lead-none index image w (z .loose) (z .to) s pr f g ts e
+
+    module _ {next : ℕ} {t : Span} (e : s .end ≡ 0) (q : next ≡ endAt index (s .to)) (p : Spans index image w (z .loose) true next (z .to) t) where
+      -- the first, with the trailing list before it, and the others
+      pub specs-some : (pr : ℕ → Print) (f g : Bool → Print)
+          → children pr f g (kidsIn (readAt index image CompSpec z (some ts))) ≡ around pr f g (gapOf [] ts false) (s .to) (gapAt index image t) (eqb (t .end) 0) ⨟ walked pr f g (spanned index image (kinds CompSpec) (z .loose) (z .to) t)
+      specs-some pr f g = walked-specs pr f g ∙ walk-lead pr f g ts s (through-lead ts h after e q p) e q p ∙ rw k
+
+      -- a walk over the others
+      pub specs-walks : Walks image index i (kinds CompSpec) (z .loose) (z .to) t
+      specs-walks = rw (← k) (record {
+        at = n .at;
+        through = through-lead ts h after e q p;
+        lies = p .lies;
+        onward = p .inside;
+        reached = stretch-both (n .reached) (stretch-both (lead-reached h) (stretch-both (rw q (behind-kid (spec-kid e))) (span-reached p)));
+        inside = n .inside;
+      })

@@ -1,0 +1,123 @@
+-- The laws of walks over the children of a reading.
+use mathlib.Core.Path.{_≡_, refl, sym, ap, _∙_}
+use mathlib.Core.Bool.{Bool, true, false}
+use mathlib.Core.Option.{none as nothing, some}
+use mathlib.Core.List.{List}
+use Prim.Native.Nat.{ℕ, _+_, _-_, _<_, _≤_}
+use native.Mathlib.Omega.{arith}
+use lib.Dec.{eqb}
+use lib.ListN.{length}
+use Rattle.items.specs.Item.{Test, Print, stopped}
+use Rattle.items.specs.Machine.{Held, Prints}
+use Rattle.items.specs.Laws.{by}
+use Rattle.tree.specs.declared.class.Class.{Class}
+use Rattle.tree.specs.declared.class.Kinds.{Kinds}
+use Rattle.tree.specs.Class.{kinds}
+use Rattle.tree.specs.Index.{Region, endAt, partsFrom}
+use Rattle.tree.specs.Children.{table}
+use Rattle.children.specs.declared.between.Bounds.{Bounds}
+use Rattle.children.specs.declared.gap.Span.{Span}
+use Rattle.children.specs.declared.survey.Outline.{Outline}
+use Rattle.children.specs.Reading.{Reading, foreign, read}
+use Rattle.children.specs.Whole.{whole}
+use Rattle.children.specs.Stretch.{jumps-le}
+use Rattle.children.specs.Spans.{Spans, Surveyed, spanned, gapAt}
+use Rattle.children.specs.Uses.{span-reached, survey-reading}
+use Rattle.printer.specs.declared.lists.Style.{Style}
+use Rattle.printer.specs.Print.{valuesOf, values}
+use Rattle.printer.specs.Lists.{onLine, behindIt}
+use Rattle.printer.specs.Seq.{Goes, goes-none, goes-more, goes-all}
+use Rattle.printer.specs.Under.{At, Kid, under, printOf, kid-print, kid-at}
+use Rattle.printer.specs.Walked.{around, walked, valued, Outlined, outlined, outlined-foreign, walk-next, walk-none, value-next, value-none, value-read}
+use Rattle.printer.specs.Reads.{Within, Whole, readAt, Walks, walks-first, walks-kid, walks-next}
+
+-- ---- what a survey says
+
+module _ (c : Class) {image index : List ℕ} {z : Bounds} {w : Kinds} {o : Outline} (k : w ≡ kinds c) (h : Surveyed index image w (z .loose) (z .from) (z .to) o) where
+  -- the reading comes to its end
+  pub survey-outlined : o .last .end ≡ 1 → Outlined index image (readAt index image c z nothing) o
+  survey-outlined e = outlined _ (survey-reading c (rw k at h)) e
+
+  -- a foreign element stands in it
+  pub survey-foreign : (o .last .end ≡ 1 → ⊥) → readAt index image c z nothing ≡ foreign (o .last .to)
+  survey-foreign e = outlined-foreign index image o _ (survey-reading c (rw k at h)) e
+
+-- a reading that comes to its end has no foreign element
+pub outlined-whole : {index image : List ℕ} {r : Reading} {o : Outline} → Outlined index image r o → Whole r
+outlined-whole x = record { kids = x .kids; ending = x .ending; is = x .is }
+
+-- ---- gaps
+
+-- a gap by the class that the code has named
+pub spans-as : {index image : List ℕ} {w v : Kinds} {loose after : Bool} {from b : ℕ} {s : Span} → w ≡ v → Spans index image w loose after from b s → Spans index image v loose after from b s
+spans-as e h = rw (← e) h
+
+module _ {image index : List ℕ} {i : ℕ} {w : Kinds} {loose : Bool} {b next : ℕ} {s : Span} (h : Walks image index i w loose b s) (e : s .end ≡ 0) (q : next ≡ endAt index (s .to)) where
+  -- where it may be looked for
+  pub walks-region : Region index image next b
+  walks-region =
+      let t = table (h .at .indexed) in
+      let k = walks-kid h e in
+      rw q (record { n = _; table = t; begins = t .inside (s .to) (kid-at k .within); ends = omega (arith, h .inside, t .inside i (h .at .within)) })
+
+  -- it ends further on
+  pub walks-less : {t : Span} → Spans index image w loose true next b t → b - t .to < b - s .to
+  walks-less k =
+      let r = span-reached k in
+      let p = table (h .at .indexed) .past (s .to) (kid-at (walks-kid h e) .within) in
+      omega (arith, h .onward e, jumps-le (r .table) (r .jumps))
+
+-- ---- children with what stands around them
+
+-- The children from the gap s on are still to be printed, of those from the gap s₀ on.
+pub record Walking (image index : List ℕ) (i : ℕ) (w : Kinds) (loose : Bool) (b : ℕ) (style : Style) (t : Test) (s₀ : Span) (o a : Held) (s : Span) : Type 0 where
+  pub walks : Walks image index i w loose b s
+  pub goes : Goes (walked (under image i) (onLine style t) (behindIt style t) (spanned index image w loose b s₀)) (walked (under image i) (onLine style t) (behindIt style t) (spanned index image w loose b s)) o a
+
+module _ {image index : List ℕ} {i : ℕ} {w : Kinds} {loose : Bool} {b : ℕ} {style : Style} {t : Test} {s : Span} {o : Held} where
+  pub walking-none : (c : Class) → w ≡ kinds c → Walks image index i (kinds c) loose b s → Walking image index i w loose b style t s o o s
+  walking-none c k h = record { walks = rw k h; goes = goes-none _ o }
+
+  pub walking-more : {s₀ g : Span} {a d : Held} {next : ℕ} → Walking image index i w loose b style t s₀ o a s → s .end ≡ 0 → next ≡ endAt index (s .to) → Spans index image w loose true next b g
+      → Prints (around (under image i) (onLine style t) (behindIt style t) (gapAt index image s) (s .to) (gapAt index image g) (eqb (g .end) 0)) a d → Walking image index i w loose b style t s₀ o d g
+  walking-more h e q k p = record {
+    walks = walks-next (h .walks) e q k;
+    goes = goes-more (h .goes) (walk-next (under image i) (onLine style t) (behindIt style t) (h .walks .through) e q k) p;
+  }
+
+  pub walking-all : (c : Class) {s₀ : Span} {a : Held} → w ≡ kinds c → Walking image index i w loose b style t s₀ o a s → (s .end ≡ 0 → ⊥)
+      → Prints (walked (under image i) (onLine style t) (behindIt style t) (spanned index image (kinds c) loose b s₀)) o a
+  walking-all c k h e = rw (← k) (goes-all (h .goes) (walk-none index image w loose b s (under image i) (onLine style t) (behindIt style t) e))
+
+-- ---- children without what stands around them
+
+-- The values from the gap s on are still to be printed, of those from the gap s₀ on.
+pub record Valuing (image index : List ℕ) (i : ℕ) (w : Kinds) (loose : Bool) (b : ℕ) (s₀ : Span) (o a : Held) (s : Span) : Type 0 where
+  pub walks : Walks image index i w loose b s
+  pub goes : Goes (valued (under image i) (spanned index image w loose b s₀)) (valued (under image i) (spanned index image w loose b s)) o a
+
+module _ {image index : List ℕ} {i : ℕ} {w : Kinds} {s : Span} {o : Held} where
+  pub valuing-more : {loose : Bool} {b : ℕ} {s₀ g : Span} {a d : Held} {next : ℕ} → Valuing image index i w loose b s₀ o a s → s .end ≡ 0 → next ≡ endAt index (s .to)
+      → Spans index image w loose true next b g → Prints (printOf image (s .to)) a d → Valuing image index i w loose b s₀ o d g
+  valuing-more h e q k p = record {
+    walks = walks-next (h .walks) e q k;
+    goes = goes-more (h .goes) (value-next (under image i) s e q k) (by (kid-print (walks-kid (h .walks) e)) p);
+  }
+
+module _ {image index : List ℕ} {i : ℕ} {w : Kinds} {z : Bounds} {s : Span} {o : Held} where
+  pub valuing-none : (c : Class) {out : Outline} → Within image index i z → w ≡ kinds c → Spans index image w (z .loose) false (z .from) (z .to) s → Outlined index image (readAt index image c z nothing) out
+      → Valuing image index i w (z .loose) (z .to) s o o s
+  valuing-none c h k p x = record { walks = rw k (walks-first c h (rw k at p) (outlined-whole x)); goes = goes-none _ o }
+
+  -- the values of a reading
+  pub valuing-all : (c : Class) {s₀ : Span} {a : Held} {out : Outline} → w ≡ kinds c → Spans index image w (z .loose) false (z .from) (z .to) s₀ → Outlined index image (readAt index image c z nothing) out
+      → Valuing image index i w (z .loose) (z .to) s₀ o a s → (s .end ≡ 0 → ⊥) → Prints (valuesOf (under image i) (readAt index image c z nothing)) o a
+  unfolding valuesOf
+  valuing-all c k p x h e =
+      by (rw (x .is, value-read (under image i) _ (sym (whole c (z .loose) _) ∙ x .is), ← k, p .read))
+      (goes-all (h .goes) (value-none index image w (z .loose) (z .to) s (under image i) e))
+
+-- a foreign element
+pub values-foreign : (pr : ℕ → Print) {r : Reading} {n : ℕ} → r ≡ foreign n → valuesOf pr r ≡ stopped n
+unfolding valuesOf
+values-foreign pr e = rw e
