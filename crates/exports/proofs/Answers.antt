@@ -7,8 +7,15 @@ use Rattle.items.specs.declared.Printed.the-variants.{Done}
 use Rattle.items.specs.Item.{says}
 use Rattle.items.specs.Machine.{Prints, held, noCounts}
 use Rattle.comments.specs.Comments.{Location, comment}
+use Rattle.formatter.specs.declared.Answer.{Answer}
+use Rattle.formatter.specs.Told as formatter
 use Rattle.exports.specs.Comment.{code, told, Printing}
+use Rattle.exports.specs.Print.{Reports}
+use Rattle.exports.specs.declared.print.Report.{Report}
 
 pub comment-answered : (k : ℕ) (s : List ℕ) (loc place : Location) (start p : Printed) (rs ts cs rs′ ts′ cs′ : List ℕ) (r : ℕ) → place ≡ loc → start ≡ Done noCounts
     → Prints (says (comment k s place)) (held rs ts start) (held rs′ ts′ p) → cs′ ≡ told cs p → r ≡ code p → Printing (says (comment k s loc)) rs ts cs rs′ ts′ cs′ r
 comment-answered k s loc place start p rs ts cs rs′ ts′ cs′ r e d h t a = record { printed = p; prints = rw (e, d) at h; counts = t; answered = a }
+
+pub by-case : (r : Report) (a b : Answer) → a ≡ b → Reports r (formatter.told b) → Reports r (formatter.told a)
+by-case r a b h k = rw h k

@@ -1,4 +1,6 @@
 // Functions for programs in other languages. `oracle/crates/compare` calls them from Rust.
+pub mod print;
+
 use comments::CommentLocation;
 use items::Printed;
 use tree::Tested;

@@ -10,5 +10,7 @@ pub mod Bound
 pub mod Counted
 pub mod Fitted
 pub mod Answer
+pub mod Told
 pub mod Answered
+pub mod Calls
 pub mod Examples

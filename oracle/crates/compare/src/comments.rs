@@ -51,7 +51,7 @@ fn three_places(report: &mut Report, kind: u16, text: &str) {
         let original = print::comment(kind, text, place);
         // Room for more than any comment gives.
         let room = 4 * text.len() + 16;
-        let ours = Buffers::new(room, room).comment(kind, text, place);
+        let ours = Buffers::new(3 * room, room).comment(kind, text, place);
         if ours.as_ref() == Ok(&original) {
             report.same();
         } else {

@@ -16,6 +16,23 @@ unsafe extern "C" {
         counts: &mut [u32; 4],
     ) -> u32;
     fn tungvesk_refusal(image: *const u8, image_len: usize, values: &mut [u32; 2]) -> u32;
+    fn tungvesk_print(
+        image: *const u8,
+        image_len: usize,
+        records: *mut u32,
+        records_len: usize,
+        texts: *mut u8,
+        texts_len: usize,
+        values: &mut [u64; 5],
+    ) -> u32;
+}
+
+/// The answer to an image: its records, or the number of a refusal and its
+/// element.
+#[derive(Debug, Clone, PartialEq, Eq)]
+pub enum Answer {
+    Printed(Records),
+    Refused(u32, usize),
 }
 
 /// The number of a refusal, its element and 0, or 0 with N and B.
@@ -37,11 +54,17 @@ pub struct Buffers {
 }
 
 impl Buffers {
-    pub fn new(records: usize, texts: usize) -> Self {
+    pub fn new(words: usize, texts: usize) -> Self {
         Self {
-            records: vec![FILL; 3 * records],
+            records: vec![FILL; words],
             texts: vec![FILL as u8; texts],
         }
+    }
+
+    /// Whether anything past so many words and bytes has changed.
+    fn changed(&self, words: usize, texts: usize) -> bool {
+        self.records[words..].iter().any(|w| *w != FILL)
+            || self.texts[texts..].iter().any(|b| *b != FILL as u8)
     }
 
     /// The records that a call left, or what is wrong with them.
@@ -53,11 +76,10 @@ impl Buffers {
         if 3 * records > self.records.len() || texts > self.texts.len() {
             return Err(format!("counts {counts:?} past the buffers"));
         }
-        let (records, past) = self.records.split_at(3 * records);
-        let (texts, past_texts) = self.texts.split_at(texts);
-        if past.iter().any(|w| *w != FILL) || past_texts.iter().any(|b| *b != FILL as u8) {
+        if self.changed(3 * records, texts) {
             return Err("something past the counts has changed".to_owned());
         }
+        let (records, texts) = (&self.records[..3 * records], &self.texts[..texts]);
         let found = Records {
             records: records.as_chunks().0.to_vec(),
             texts: texts.to_vec(),
@@ -87,5 +109,35 @@ impl Buffers {
             )
         };
         self.take(answer, counts)
+    }
+
+    /// The answer to an image, or what is wrong with it.
+    pub fn print(&mut self, image: &[u8]) -> Result<Answer, String> {
+        let mut values = [u64::from(FILL); 5];
+        // The pointers and lengths are those of slices that live until the call
+        // ends, and no two of them overlap.
+        let number = unsafe {
+            tungvesk_print(
+                image.as_ptr(),
+                image.len(),
+                self.records.as_mut_ptr(),
+                self.records.len(),
+                self.texts.as_mut_ptr(),
+                self.texts.len(),
+                &mut values,
+            )
+        };
+        let [counts @ .., element] = values;
+        if number != 0 {
+            if self.changed(0, 0) || counts != [0; 4] {
+                return Err(format!("refused with {number}, and something was written"));
+            }
+            return Ok(Answer::Refused(number, element as usize));
+        }
+        if element != 0 {
+            return Err(format!("printed, with the element {element}"));
+        }
+        let records = self.take(number, counts.map(|n| n as u32))?;
+        Ok(Answer::Printed(records))
     }
 }

@@ -13,6 +13,8 @@ use oracle::{
 #[cfg(library)]
 mod comments;
 #[cfg(library)]
+mod images;
+#[cfg(library)]
 mod library;
 #[cfg(library)]
 mod refusals;
@@ -66,8 +68,11 @@ fn run(seed: u64, count: u64) -> Vec<Report> {
 fn compare(images: &[Vec<u8>], seed: u64) -> Vec<Report> {
     let (refusals, counts) = refusals::compare(images, seed);
     println!("images by refusal, from none to 9: {counts:?}");
+    let (printed, counts) = images::compare(images, seed);
+    println!("calls by answer, printed and then refusals 1 to 12: {counts:?}");
     vec![
         refusals,
+        printed,
         comments::of_images(images),
         comments::exhaustive(),
     ]

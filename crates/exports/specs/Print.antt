@@ -1,0 +1,21 @@
+-- What the exported function from images to records answers.
+use mathlib.Core.Path.{_≡_}
+use mathlib.Core.List.{List, [], _∷_}
+use Prim.Native.Nat.{ℕ}
+use Rattle.formatter.specs.Answer.{Answer, refused, done}
+use Rattle.exports.specs.declared.print.Report.{Report}
+
+-- document 01's number of the refusal, 0 where there is none
+unfoldable pub number : Answer → ℕ
+number (refused n e) = n
+number (done c) = 0
+
+-- the four counts and the element, 0 where the answer has none
+unfoldable pub values : Answer → List ℕ
+values (refused n e) = 0 ∷ 0 ∷ 0 ∷ 0 ∷ e ∷ []
+values (done c) = c .records ∷ c .texts ∷ c .runs ∷ c .marks ∷ 0 ∷ []
+
+-- A report has the number and the values of an answer.
+pub record Reports (r : Report) (a : Answer) : Type 0 where
+  pub numbered : r .number ≡ number a
+  pub valued : (r .counts .records ∷ r .counts .texts ∷ r .counts .runs ∷ r .counts .marks ∷ r .element ∷ []) ≡ values a
