@@ -16,6 +16,7 @@ use Rattle.items.specs.declared.Printed.the-variants.{Done, Stopped, Full}
 use Rattle.tree.specs.Tree.{countN, countB, treeOf}
 use Rattle.tree.specs.Refusal.{Refusal, refusal}
 use Rattle.tree.specs.Answer as tree
+use Rattle.tree.specs.declared.Tested.{Tested}
 use Rattle.tree.specs.Accepted.{accepted}
 use Rattle.tree.specs.Index.{Indexed}
 use Rattle.printer.specs.Print.{sourceFile}
@@ -31,13 +32,17 @@ ruled-away : (image rs ts : List ℕ) (n e : ℕ) → ruling image rs ts ≡ tur
 unfolding answer answerOf recordsAfter textsAfter bufferOf
 ruled-away image rs ts n e h = record { answers = rw h; records = rw h; texts = rw h }
 
-pub turned-away : (image rs ts : List ℕ) (n e : ℕ) → tree.refused (record { number = n; element = e }) ≡ tree.answer image → Answers image rs ts rs ts (refused n e)
+refused-by : (image rs ts : List ℕ) (r : Refusal) → tree.refused r ≡ tree.answer image → Answers image rs ts rs ts (refused (r .number) (r .element))
 unfolding tree.answer ruling verdict fromTests withRoom
-turned-away image rs ts n e h = go (refusal image) refl h
+refused-by image rs ts r h = go (refusal image) refl h
   where
-    go : (o : Option Refusal) → refusal image ≡ o → tree.refused (record { number = n; element = e }) ≡ tree.answered (countN image) (countB image) o → Answers image rs ts rs ts (refused n e)
+    go : (o : Option Refusal) → refusal image ≡ o → tree.refused r ≡ tree.answered (countN image) (countB image) o → Answers image rs ts rs ts (refused (r .number) (r .element))
     go none q k = absurd (let z : _≡_ {A = ℕ} 0 1 = cc in omega arith)
-    go (some r) q k = let i : record { number = n; element = e } ≡ r = cc in ruled-away image rs ts n e (rw (q, ← i))
+    go (some r′) q k = let i : r ≡ r′ = cc in ruled-away image rs ts (r .number) (r .element) (rw (q, ← i))
+
+-- the tests' answer t is u, a refusal
+pub turned-away : {image rs ts : List ℕ} {t u : Tested} {r : Refusal} → t ≡ u → tree.said u ≡ tree.refused r → tree.said t ≡ tree.answer image → Answers image rs ts rs ts (refused (r .number) (r .element))
+turned-away {image} {rs} {ts} {r} i j h = refused-by image rs ts r (sym j ∙ ap tree.said (sym i) ∙ h)
 
 -- ---- counting
 
