@@ -175,10 +175,6 @@ pub record Ends (index text : List ℕ) (a b : ℕ) (s e : Option ℕ) : Type 0 
   pub starts : (j : ℕ) → s ≡ some j → has j (partsFrom index text a b) ≡ true
   pub ends : (j : ℕ) → e ≡ some j → has j (partsFrom index text a b) ≡ true
 
--- a start, and no end
-pub no-end : {index text : List ℕ} {a b : ℕ} {s : Option ℕ} → Region index text a b → ((j : ℕ) → s ≡ some j → has j (partsFrom index text a b) ≡ true) → Ends index text a b s none
-no-end r h = record { region = r; starts = h; ends = λ j e. none-some j e }
-
 -- r is where a reading between a start and an end begins and ends, and whether it is loose. It begins at one of the siblings from a
 -- on, or at their end.
 pub record Bounded (index text : List ℕ) (a b : ℕ) (s e : Option ℕ) (r : Bounds) : Type 0 where

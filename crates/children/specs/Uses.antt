@@ -4,21 +4,20 @@ use mathlib.Core.Bool.{Bool, true, false, not}
 use mathlib.Core.Option.{none, some}
 use mathlib.Core.List.{List}
 use Prim.Native.Nat.{ℕ}
-use borrow.Author.Tests.{eq-eqb, ne-eqb}
+use borrow.Author.Tests.{eq-eqb}
 use Rattle.tree.specs.declared.class.Kinds.{Kinds}
 use Rattle.tree.specs.Class.{kinds}
 use Rattle.children.specs.declared.gap.Span.{Span}
 use Rattle.children.specs.declared.survey.Outline.{Outline}
 use Rattle.children.specs.Reading.{pass, start}
-use Rattle.children.specs.Gaps.{Gaps, stopped, ending, gaps}
+use Rattle.children.specs.Gaps.{Gaps, gaps}
 use Rattle.tree.specs.Index.{Region, partsFrom, partAt, endAt}
 use Rattle.tree.specs.Parts.{region-next}
 use Rattle.children.specs.Stretch.{Stretch, stretch-both}
 use Rattle.children.specs.Spans.{Spans, spanned, gapAt, Surveyed, surveyed}
-use Rattle.children.specs.Lead.{Leads, leads, led, leadAt, SurveyedAfter, whole-after}
+use Rattle.children.specs.Lead.{Leads, SurveyedAfter, whole-after}
 use Rattle.children.specs.Whole.{whole, whole-sums, sumsOf}
 use Rattle.tree.specs.declared.class.Class.{Class}
-use Rattle.tree.specs.declared.class.Class.the-variants as Class
 
 module _ {index text : List ℕ} {w : Kinds} {loose after : Bool} {from b : ℕ} {r : Span} (h : Spans index text w loose after from b r) where
   -- a gap, a child, and what is behind the child
@@ -26,41 +25,12 @@ module _ {index text : List ℕ} {w : Kinds} {loose after : Bool} {from b : ℕ}
   unfolding spanned
   span-child e = h .read ∙ rw (eq-eqb (r .end) 0 e)
 
-  -- the last gap
-  pub span-ending : r .end ≡ 1 → gaps w loose (not after) after (partsFrom index text from b) ≡ ending (gapAt index text r)
-  unfolding spanned
-  span-ending e = h .read ∙ rw e
-
-  -- a foreign element
-  pub span-foreign : (r .end ≡ 0 → ⊥) → (r .end ≡ 1 → ⊥) → gaps w loose (not after) after (partsFrom index text from b) ≡ stopped (r .to)
-  unfolding spanned
-  span-foreign e f = h .read ∙ rw (ne-eqb (r .end) 0 e, ne-eqb (r .end) 1 f)
-
-  -- where the next gap begins
-  pub span-next : (next : ℕ) → r .end ≡ 0 → next ≡ endAt index (r .to) → Region index text next b
-  span-next next e q = rw q (region-next (h .onward) (h .inside e))
-
   -- its end is reached from its beginning
   pub span-reached : Stretch index text from (r .to)
   span-reached = rw (h .begins) at (stretch-both (h .lies .first) (h .lies .second))
 
 -- the same at the first gap of a reading with a trailing list
 module _ {index text : List ℕ} {w : Kinds} {loose : Bool} {from b : ℕ} {r : Span} (h : Leads index text w loose from b r) where
-  -- a child, and what is behind it
-  pub lead-child : r .end ≡ 0 → leads w loose (partsFrom index text from b) ≡ Gaps.child (leadAt index text r) (partAt index text (r .to)) (gaps w loose false true (partsFrom index text (endAt index (r .to)) b))
-  unfolding led
-  lead-child e = h .read ∙ rw (eq-eqb (r .end) 0 e)
-
-  -- the end
-  pub lead-ending : r .end ≡ 1 → leads w loose (partsFrom index text from b) ≡ ending (leadAt index text r)
-  unfolding led
-  lead-ending e = h .read ∙ rw e
-
-  -- a foreign element
-  pub lead-foreign : (r .end ≡ 0 → ⊥) → (r .end ≡ 1 → ⊥) → leads w loose (partsFrom index text from b) ≡ stopped (r .to)
-  unfolding led
-  lead-foreign e f = h .read ∙ rw (ne-eqb (r .end) 0 e, ne-eqb (r .end) 1 f)
-
   -- where the next gap begins
   pub lead-next : (next : ℕ) → r .end ≡ 0 → next ≡ endAt index (r .to) → Region index text next b
   lead-next next e q = rw q (region-next (h .onward) (h .inside e))

@@ -1,5 +1,4 @@
 -- What the code answers, in document 01's numbers.
-use Prim.Native.Nat.{ℕ}
 use Rattle.formatter.specs.declared.Answer.{Answer}
 use Rattle.formatter.specs.declared.Answer.the-variants.{WrongLength, OutOfLimits, UnknownKind, Misplaced, WrongSize, NotUtf8, StringBlock, Misformed, Nameless, Stopped, RecordsTooShort, TextsTooShort, Printed}
 use Rattle.formatter.specs.Answer.{refused, done}

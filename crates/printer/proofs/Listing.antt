@@ -1,6 +1,6 @@
 -- The laws of lists, comprehensions, locals and expressions: what the printers print, one after the other, is what the definitions say.
 use mathlib.Core.Path.{_≡_, refl, sym, ap, _∙_}
-use mathlib.Core.Bool.{Bool, true, false, cond, not, _&&_, _||_}
+use mathlib.Core.Bool.{Bool, true, false, not, _&&_, _||_}
 use mathlib.Core.Option.{Option, none as nothing, some}
 use mathlib.Core.List.{List, [], _∷_}
 use Prim.Native.Nat.{ℕ, suc, _+_, _*_}
@@ -8,23 +8,20 @@ use Prim.Native.String.{String}
 use native.Mathlib.Omega.{arith}
 use lib.Dec.{eqb}
 use lib.ListN.{length}
-use borrow.Author.Tests.{eq-eqb, ne-eqb}
+use borrow.Author.Tests.{ne-eqb}
 use Rattle.text.specs.Basic.{isNil}
-use Rattle.items.specs.Item.{Test, lines, newline, indent, outdent, mark, group, groupEnd, Print, _⨟_, none, say, stopped, lit, when, numbered, openRun}
-use Rattle.items.specs.Machine.{Held, Prints}
-use Rattle.items.specs.Laws.{by, _▸_}
-use Rattle.comments.specs.Comments.{aboveItem, itemInline}
+use Rattle.items.specs.Item.{Test, lines, newline, indent, outdent, mark, group, Print, _⨟_, none, say, stopped, lit, when, numbered}
+use Rattle.items.specs.Laws.{by}
 use Rattle.tree.specs.Tree.{Part}
 use Rattle.tree.specs.Class.{numberOf}
 use Rattle.children.specs.declared.survey.Outline.{Outline}
 use Rattle.children.specs.Reading.{Child, Ending, Reading, foreign, read, isEmpty, anyManyLines, compMembers, compSpecs}
 use Rattle.children.specs.Between.{none-some}
-use Rattle.children.specs.Comments.{comments}
 use Rattle.children.specs.Gaps.{Gap}
 use Rattle.children.specs.Spans.{gapAt}
 use Rattle.printer.specs.declared.lists.Style.the-variants.{Elements, Arguments, Members, Specs, Binds}
-use Rattle.printer.specs.Combine.{either, grouped, comma, separator, onlyIf, ending, newlineIf, testOf, bracketed}
-use Rattle.printer.specs.Print.{shared, indented, children, list, arguments, compBody, compOf, comprehension, manyBinds, localOf, valuesOf, expression}
+use Rattle.printer.specs.Combine.{grouped, comma, separator, onlyIf, ending, newlineIf, testOf, bracketed}
+use Rattle.printer.specs.Print.{shared, indented, children, list, arguments, compBody, compOf, comprehension, manyBinds, localOf}
 use Rattle.printer.specs.Lists.{onLine, behindIt, above, following, endingOf, openList, endBody, repeatBody, closeBracket, closeList, closeArguments}
 use Rattle.printer.specs.Seq.{seq-assoc, none-first, none-last}
 use Rattle.printer.specs.Walked.{around, Outlined}
@@ -67,10 +64,6 @@ module _ {index image : List ℕ} {r : Reading} {o : Outline} (x : Outlined inde
       go : (a : Bool) → (a && (not (o .blank) && isNil (gapAt index image (o .last) .waiting))) ≡ ((a && not (o .blank)) && isNil (gapAt index image (o .last) .waiting))
       go true = refl
       go false = refl
-
-  kids-is : x .kids ≡ kidsIn r
-  unfolding kidsIn
-  kids-is = rw (x .is)
 
 module _ (pr : ℕ → Print) (a b z : String) {r : Reading} where
   pub list-foreign : {n : ℕ} → r ≡ foreign n → list pr a b z r ≡ stopped n

@@ -1,19 +1,15 @@
 -- The laws of an element: which printer prints it, by its kind.
-use mathlib.Core.Path.{_≡_, refl, sym, ap, _∙_}
+use mathlib.Core.Path.{_≡_, refl, sym, _∙_}
 use mathlib.Core.Bool.{Bool, true, false, cond, _||_, false≢true}
 use mathlib.Core.List.{List}
-use Prim.Native.Nat.{ℕ, _<_, _≤_}
+use Prim.Native.Nat.{ℕ, _<_}
 use native.Mathlib.Omega.{arith}
 use lib.Dec.{leb, eqb}
 use borrow.Author.Tests.{ne-eqb, lt-leb, leb-false, eqb-false}
-use Rattle.items.specs.Item.{Print, _⨟_, newline, text, say, lit}
-use Rattle.tree.specs.Tree.{Part}
-use Rattle.tree.specs.declared.class.Class.the-variants as Class
-use Rattle.tree.specs.Class.{first}
+use Rattle.items.specs.Item.{Print, text, say}
 use Rattle.tree.specs.Index.{kindAt, textAt}
-use Rattle.children.specs.Reading.{enclosed}
 use Rattle.printer.specs.Layout.{layout}
-use Rattle.printer.specs.Print.{element, expression, list, localOf, comprehension, arguments, row}
+use Rattle.printer.specs.Print.{element, row}
 use Rattle.printer.specs.Under.{At, under, printOf, partsOf, node-is}
 
 -- a kind with a row, as `element` asks for it

@@ -2,12 +2,11 @@
 use mathlib.Core.Path.{_≡_, refl, sym, ap, _∙_}
 use mathlib.Core.Bool.{Bool, true, false, not, _&&_, _||_, false≢true}
 use mathlib.Core.Option.{Option, none as nothing, some}
-use mathlib.Core.List.{List, []}
-use Prim.Native.Nat.{ℕ, _+_, _<_}
+use mathlib.Core.List.{List}
+use Prim.Native.Nat.{ℕ, _+_}
 use Prim.Native.String.{String}
 use native.Mathlib.Omega.{arith}
 use lib.Dec.{eqb}
-use lib.ListN.{length}
 use Rattle.text.specs.Basic.{isNil, present, orElse}
 use Rattle.items.specs.declared.Printed.{Printed}
 use Rattle.items.specs.declared.Condition.{Condition}
@@ -15,23 +14,20 @@ use Rattle.items.specs.Item.{newline, indent, outdent, group, Print, _⨟_, say
 use Rattle.items.specs.Signal.{conditionTest}
 use Rattle.items.specs.Machine.{Held, held, Prints, nextRun}
 use Rattle.items.specs.Laws.{by, _▸_, numbers}
-use Rattle.comments.specs.Comments.{aboveItem}
 use Rattle.tree.specs.Tree.{Part}
 use Rattle.tree.specs.declared.class.Class.{Class}
 use Rattle.tree.specs.declared.class.Class.the-variants as Class
 use Rattle.tree.specs.Class.{first, last, numberOf}
 use Rattle.tree.specs.Index.{endAt}
 use Rattle.children.specs.declared.between.Bounds.{Bounds}
-use Rattle.children.specs.declared.gap.Span.{Span}
 use Rattle.children.specs.declared.survey.Outline.{Outline}
-use Rattle.children.specs.Reading.{Reading, foreign, between, enclosed, compMembers, compSpecs}
-use Rattle.children.specs.Comments.{comments}
+use Rattle.children.specs.Reading.{Reading, between, enclosed, compSpecs}
 use Rattle.children.specs.Spans.{gapAt}
 use Rattle.children.specs.Between.{Bounded}
 use Rattle.printer.specs.declared.lists.ListKind.{ListKind}
 use Rattle.printer.specs.declared.lists.Style.the-variants.{Elements, Arguments, Members, Specs, Binds}
 use Rattle.printer.specs.Combine.{newlineIf, testOf, ending}
-use Rattle.printer.specs.Print.{partOr, children, list, arguments, compOf, comprehension, localOf, valuesOf, expression}
+use Rattle.printer.specs.Print.{children, list, arguments, compOf, comprehension, localOf, valuesOf, expression}
 use Rattle.printer.specs.Rows.{words, wordAt, Word, wordOrNone}
 use Rattle.printer.specs.Lists.{onLine, behindIt, endingOf, openList, closeList, closeArguments, openerOf, closerOf, childOf}
 use Rattle.printer.specs.Under.{partsOf}

@@ -1,15 +1,15 @@
 -- The laws of a row: its pieces in turn, and what each of them prints.
 use mathlib.Core.Path.{_≡_, refl, sym, ap, _∙_}
-use mathlib.Core.Bool.{Bool, true, false, cond, not, _||_, _&&_, false≢true}
+use mathlib.Core.Bool.{Bool, true, false, cond, not, _||_, false≢true}
 use mathlib.Core.Option.{Option, none as nothing, some}
 use mathlib.Core.List.{List, [], _∷_, flatten}
 use Prim.Native.Nat.{ℕ, suc, _+_, _*_, _-_, _<_, _≤_}
 use Prim.Native.String.{String}
 use native.Mathlib.Omega.{arith}
 use lib.Dec.{leb, eqb}
-use lib.ListN.{length, getD, take, drop}
+use lib.ListN.{length, take, drop}
 use lib.Seq.{drop-cons}
-use borrow.Author.Tests.{eq-eqb, ne-eqb, eqb-true, eqb-false, lt-leb, leb-true}
+use borrow.Author.Tests.{ne-eqb, eqb-true, eqb-false, leb-true}
 use Rattle.text.specs.Basic.{ascii, isNil}
 use Rattle.text.proofs.Table.{tabled-at}
 use Rattle.items.specs.Item.{Print, _⨟_, none, lit, when, say, newline}
@@ -18,16 +18,16 @@ use Rattle.items.specs.Laws.{_▸_, by, idle}
 use Rattle.tree.specs.Tree.{Part}
 use Rattle.tree.specs.declared.class.Class.{Class}
 use Rattle.tree.specs.declared.class.Kinds.{Kinds}
-use Rattle.tree.specs.Class.{kinds, oneOf, nth, plusOf, isPlus, numberOf}
+use Rattle.tree.specs.Class.{kinds, oneOf, nth, plusOf, numberOf}
 use Rattle.tree.specs.Index.{kindAt, endAt, partAt, partsFrom, Region}
 use Rattle.tree.specs.Parts.{region-part, region-past, region-next, parts-over}
 use Rattle.children.specs.Stretch.{Stretch, stretch-none, stretch-both}
-use Rattle.children.specs.Between.{has, nth-has, has-here, has-later, none-some}
+use Rattle.children.specs.Between.{has}
 use Rattle.printer.specs.declared.rows.Entry.{Entry}
 use Rattle.printer.specs.declared.rows.Extent.{Extent}
 use Rattle.printer.specs.Layout
-use Rattle.printer.specs.Layout.{What, Piece, asked, layout, rows}
-use Rattle.printer.specs.Print.{partOr, eachOf, what, row}
+use Rattle.printer.specs.Layout.{asked, layout, rows}
+use Rattle.printer.specs.Print.{eachOf, what, row}
 use Rattle.printer.specs.Rows.{words, wordAt, wordOrNone, wantAt, whatOf, pieceOf, pieces, pieceAt, settled, Coded, RowOf}
 use Rattle.printer.specs.Seq.{Goes, goes-none, goes-more, goes-all, seq-assoc, none-first, none-last}
 use Rattle.printer.specs.Under.{At, Kid, under, partsOf, printOf, size, kid-of, kid-found, kid-print, kid-less, at-region}

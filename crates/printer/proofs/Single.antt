@@ -1,9 +1,9 @@
 -- The laws of a local's one bind, and of the CompSpecs of an object comprehension.
 use mathlib.Core.Path.{_≡_, refl, sym, ap, _∙_}
 use mathlib.Core.Bool.{Bool, true, false, cond}
-use mathlib.Core.Option.{Option, none as nothing, some}
+use mathlib.Core.Option.{none as nothing, some}
 use mathlib.Core.List.{List, [], _∷_}
-use Prim.Native.Nat.{ℕ, suc, _+_, _<_, _≤_}
+use Prim.Native.Nat.{ℕ, _≤_}
 use native.Mathlib.Omega.{arith}
 use lib.Dec.{eqb}
 use lib.ListN.{length}
@@ -11,11 +11,10 @@ use borrow.Author.Tests.{eqb-true}
 use Rattle.items.specs.Item.{Print, _⨟_, none, lit}
 use Rattle.comments.specs.Comments.{aboveItem}
 use Rattle.tree.specs.Tree.{Part}
-use Rattle.tree.specs.declared.class.Class.{Class}
 use Rattle.tree.specs.declared.class.Kinds.{Kinds}
 use Rattle.tree.specs.declared.class.Class.the-variants.{Bind, CompSpec}
 use Rattle.tree.specs.Class.{kinds}
-use Rattle.tree.specs.Index.{Region, endAt, partAt, partsFrom}
+use Rattle.tree.specs.Index.{endAt, partAt, partsFrom}
 use Rattle.children.specs.declared.between.Bounds.{Bounds}
 use Rattle.children.specs.declared.gap.Span.{Span}
 use Rattle.children.specs.Reading.{Child, Ending, Reading, foreign, read}
@@ -28,7 +27,7 @@ use Rattle.children.specs.Stretch.{stretch-both}
 use Rattle.children.specs.Spans.{Spans, spanned, gapAt}
 use Rattle.children.specs.Uses.{span-child, span-reached, lead-reached}
 use Rattle.printer.specs.Print.{children, localOf}
-use Rattle.printer.specs.Under.{At, Kid, kid-of}
+use Rattle.printer.specs.Under.{Kid, kid-of}
 use Rattle.printer.specs.Walked.{around, walked, walkedAfter, walk-after, through-lead, walk-lead, lead-none}
 use Rattle.printer.specs.Reads.{Within, Whole, readAt, kidsIn, Walks, behind-kid}
 

@@ -1,9 +1,9 @@
 -- The laws of walks over the children of a reading.
-use mathlib.Core.Path.{_≡_, refl, sym, ap, _∙_}
+use mathlib.Core.Path.{_≡_, sym, _∙_}
 use mathlib.Core.Bool.{Bool, true, false}
 use mathlib.Core.Option.{none as nothing, some}
 use mathlib.Core.List.{List, []}
-use Prim.Native.Nat.{ℕ, _+_, _-_, _<_, _≤_}
+use Prim.Native.Nat.{ℕ, _-_, _<_}
 use native.Mathlib.Omega.{arith}
 use lib.Dec.{eqb}
 use lib.ListN.{length}
@@ -13,7 +13,7 @@ use Rattle.items.specs.Laws.{by}
 use Rattle.tree.specs.declared.class.Class.{Class}
 use Rattle.tree.specs.declared.class.Kinds.{Kinds}
 use Rattle.tree.specs.Class.{kinds}
-use Rattle.tree.specs.Index.{Region, endAt, partsFrom}
+use Rattle.tree.specs.Index.{Region, endAt}
 use Rattle.tree.specs.Children.{table}
 use Rattle.children.specs.declared.between.Bounds.{Bounds}
 use Rattle.children.specs.declared.gap.Span.{Span}
@@ -29,7 +29,7 @@ use Rattle.printer.specs.declared.lists.Style.{Style}
 use Rattle.printer.specs.Print.{valuesOf, values}
 use Rattle.printer.specs.Lists.{onLine, behindIt}
 use Rattle.printer.specs.Seq.{Goes, goes-none, goes-more, goes-all}
-use Rattle.printer.specs.Under.{At, Kid, under, printOf, kid-print, kid-at}
+use Rattle.printer.specs.Under.{under, printOf, kid-print, kid-at}
 use Rattle.printer.specs.Walked.{around, walked, valued, Outlined, outlined, outlined-foreign, walk-next, walk-none, value-next, value-none, value-read}
 use Rattle.printer.specs.Reads.{Within, Whole, readAt, kidsIn, Walks, walks-first, walks-kid, walks-next}
 

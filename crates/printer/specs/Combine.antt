@@ -1,9 +1,8 @@
 -- Small printings that the printing and the plain printing share: conditions, groups, commas, comments.
 use mathlib.Core.Bool.{Bool, true, false}
-use mathlib.Core.List.{List, [], _∷_}
 use Prim.Native.Nat.{ℕ, _+_, _*_}
 use Prim.Native.String.{String}
-use Rattle.items.specs.Item.{Test, always, lines, newline, spaceOrNewline, mark, group, groupEnd, ifTest, elseItem, endIf, Print, _⨟_, none, say, says, lit, when, numbered}
+use Rattle.items.specs.Item.{Test, always, lines, newline, spaceOrNewline, mark, group, groupEnd, ifTest, elseItem, endIf, Print, _⨟_, say, lit, when, numbered}
 use Rattle.comments.specs.Comments.{endOfItems}
 use Rattle.children.specs.Comments.{comments}
 use Rattle.children.specs.Reading.{Ending}

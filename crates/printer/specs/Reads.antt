@@ -16,13 +16,11 @@ use Rattle.tree.specs.Children.{table}
 use Rattle.children.specs.declared.between.Bounds.{Bounds}
 use Rattle.children.specs.declared.gap.Span.{Span}
 use Rattle.children.specs.Reading.{Child, Ending, Reading, foreign, read, pass, start}
-use Rattle.children.specs.Gaps.{gaps}
 use Rattle.children.specs.Whole.{whole}
-use Rattle.children.specs.Lead.{Leads}
 use Rattle.children.specs.Stretch.{Stretch, here, jump, stretch-both}
 use Rattle.children.specs.Spans.{Lies, Spans, spanned}
 use Rattle.children.specs.Between.{has, Bounded}
-use Rattle.children.specs.Uses.{span-reached, lead-reached}
+use Rattle.children.specs.Uses.{span-reached}
 use Rattle.printer.specs.declared.rows.Entry.{Entry}
 use Rattle.printer.specs.Print.{partOr, children}
 use Rattle.printer.specs.Rows.{wantAt}

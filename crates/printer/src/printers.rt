@@ -17,7 +17,6 @@ use super::lists::open_word;
 use super::lists::opener;
 use super::lists::print_above;
 use super::lists::print_behind;
-use super::lists::print_ending;
 use super::lists::test_of;
 use super::lists::unasked;
 use super::look::enclosed;

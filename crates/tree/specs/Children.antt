@@ -89,10 +89,7 @@ module _ {image : List ℕ} (a : Accepted image) where
   unfolding firstMisplaced
   placing = split-root _ 0 _ (rw (elements-cons image 0 (a .not-empty)) at (a .places))
 
-  -- the first element is a SourceFile at level 0
-  pub root-kind : kindIn image 0 ≡ 1
-  root-kind = eqb-true (kindIn image 0) 1 (and-true (eqb (kindIn image 0) 1) _ (placing .0) .0)
-
+  -- the first element is at level 0
   pub root-level : levelIn image 0 ≡ 0
   root-level = eqb-true (levelIn image 0) 0 (and-true (eqb (kindIn image 0) 1) _ (placing .0) .1)
 

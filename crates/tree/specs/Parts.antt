@@ -5,12 +5,11 @@ use mathlib.Core.Option.{none, some}
 use mathlib.Core.List.{List, [], _∷_}
 use Prim.Native.Nat.{ℕ, zero, suc, _+_, _-_, _<_, _≤_}
 use native.Mathlib.Omega.{arith}
-use native.Mathlib.Decide.{decLt}
 use lib.Dec.{ltb}
 use borrow.Author.Tests.{lt-ltb, le-ltb, ltb-true}
 use Rattle.tree.specs.Tree.{Part}
 use Rattle.tree.specs.Class.{Kinds, oneOf, nthOf, numberOf, allOf}
-use Rattle.tree.specs.Index.{kindAt, endAt, partAt, walk, partsFrom, Table, Region}
+use Rattle.tree.specs.Index.{endAt, partAt, walk, partsFrom, Table, Region}
 
 module _ {index text : List ℕ} {n : ℕ} (t : Table index text n) where
   -- steps to spare do not matter
@@ -62,37 +61,3 @@ module _ (w : Kinds) where
       go : (t : Bool) → numberOf (cond t (some x) (nthOf w 0 xs)) ≡ none → (numberOf (nthOf w 0 xs) ≡ none → allOf w xs ≡ []) → cond t (x ∷ allOf w xs) (allOf w xs) ≡ []
       go true e f = let z : _≡_ {A = ℕ} 0 1 = cc in absurd (omega arith)
       go false e f = f e
-
-  -- what is said of the first of these kinds: the others stand behind it
-  abbrev pub Split : List ℕ → List ℕ → ℕ → ℕ → ℕ → Type 0
-  Split index text b a j = (allOf w (partsFrom index text a b) ≡ partAt index text j ∷ allOf w (partsFrom index text (endAt index j) b)) × Region index text (endAt index j) b
-
-  split : {index text : List ℕ} {b : ℕ} (f a j : ℕ) → Region index text a b → b ≤ a + f → numberOf (nthOf w 0 (partsFrom index text a b)) ≡ some j → Split index text b a j
-  unfolding nthOf allOf
-  split {index} {text} {b} zero a j r h e =
-      let n : numberOf (nthOf w 0 []) ≡ some j = rw (parts-over index text a b (omega arith)) at e in
-      let z : _≡_ {A = ℕ} 0 1 = cc in
-      absurd (omega arith)
-  split {index} {text} {b} (suc f) a j r h e = go (decLt a b) (split f (endAt index a) j)
-    where
-      at : a < b → (t : Bool) → oneOf w (kindAt index a) ≡ t
-          → (Region index text (endAt index a) b → b ≤ endAt index a + f → numberOf (nthOf w 0 (partsFrom index text (endAt index a) b)) ≡ some j → Split index text b (endAt index a) j) → Split index text b a j
-      at p true q g =
-          let n : some a ≡ some j = rw (region-part r p, q) at e in
-          let m : j ≡ a = cc in
-          rw m (rw (region-part r p, q), region-next r p)
-      at p false q g =
-          let n : numberOf (nthOf w 0 (partsFrom index text (endAt index a) b)) ≡ some j = rw (region-part r p, q) at e in
-          let s : Split index text b (endAt index a) j = g (region-next r p) (omega (arith, region-past r p)) n in
-          (rw (region-part r p, q) (s .0), s .1)
-
-      go : Dec (a < b) → (Region index text (endAt index a) b → b ≤ endAt index a + f → numberOf (nthOf w 0 (partsFrom index text (endAt index a) b)) ≡ some j → Split index text b (endAt index a) j) → Split index text b a j
-      go (yes p) g = at p (oneOf w (kindAt index a)) refl g
-      go (no p) g =
-          let n : numberOf (nthOf w 0 []) ≡ some j = rw (parts-over index text a b (omega arith)) at e in
-          let z : _≡_ {A = ℕ} 0 1 = cc in
-          absurd (omega arith)
-
-  -- all of these kinds are the first and those behind it
-  pub all-next : {index text : List ℕ} {a b : ℕ} (j : ℕ) → Region index text a b → numberOf (nthOf w 0 (partsFrom index text a b)) ≡ some j → Split index text b a j
-  all-next {index} {text} {a} {b} j r e = split (b - a) a j r (omega arith) e
