@@ -1,0 +1,46 @@
+-- What a function that writes bytes into a lent buffer promises, and how such promises are put together.
+use mathlib.Core.Path.{_≡_, refl, sym, ap, _∙_}
+use mathlib.Core.List.{List, [], _∷_, _++_}
+use Prim.Native.Nat.{ℕ, _+_}
+use native.Mathlib.Omega.{arith}
+use native.Mathlib.Nat.{add-zero}
+use lib.ListN.{length, length-append}
+use lib.Seq.{length-sets}
+use Rattle.items.specs.Machine.{store}
+use Rattle.items.specs.Fitting.{store-append}
+
+-- A lent buffer, and the place of the next byte.
+pub record Page : Type 0 where
+  pub buffer : List ℕ
+  pub place : ℕ
+
+-- a buffer and a place
+abbrev pub page : List ℕ → ℕ → Page
+page b n = record { buffer = b; place = n }
+
+-- Writing bs takes o to a: each byte is counted, and stored if there is room.
+pub record Writes (bs : List ℕ) (o a : Page) : Type 0 where
+  pub counted : a .place ≡ o .place + length bs
+  pub stored : a .buffer ≡ store (o .buffer) (o .place) bs
+
+-- nothing written
+pub blank : {o : Page} → Writes [] o o
+unfolding store
+blank = record { counted = sym (add-zero _); stored = refl }
+
+infixr 40 _▸_
+-- some bytes, and then others
+pub _▸_ : {us vs : List ℕ} {o a b : Page} → Writes us o a → Writes vs a b → Writes (us ++ vs) o b
+_▸_ {us} {vs} {o} h k = record {
+  counted = rw (length-append us vs) (omega (arith, h .counted, k .counted));
+  stored = k .stored ∙ rw (h .stored, h .counted) (store-append us vs (o .buffer) (o .place));
+}
+
+-- the same bytes by another name
+pub by : {us vs : List ℕ} {o a : Page} → us ≡ vs → Writes vs o a → Writes us o a
+by e h = rw e h
+
+-- a buffer keeps its length
+pub kept : {bs : List ℕ} {o a : Page} → Writes bs o a → length (a .buffer) ≡ length (o .buffer)
+unfolding store
+kept {bs} {o} h = ap length (h .stored) ∙ length-sets (o .buffer) (o .place) bs
