@@ -2,3 +2,5 @@
 pub mod Listing
 pub mod Examples
 pub mod Writes
+pub mod Told
+pub mod Shown

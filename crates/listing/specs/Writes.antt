@@ -1,7 +1,7 @@
 -- What a function that writes bytes into a lent buffer promises, and how such promises are put together.
 use mathlib.Core.Path.{_≡_, refl, sym, ap, _∙_}
 use mathlib.Core.List.{List, [], _∷_, _++_}
-use Prim.Native.Nat.{ℕ, _+_}
+use Prim.Native.Nat.{ℕ, _+_, _<_, _^_}
 use native.Mathlib.Omega.{arith}
 use native.Mathlib.Nat.{add-zero}
 use lib.ListN.{length, length-append}
@@ -22,6 +22,10 @@ page b n = record { buffer = b; place = n }
 pub record Writes (bs : List ℕ) (o a : Page) : Type 0 where
   pub counted : a .place ≡ o .place + length bs
   pub stored : a .buffer ≡ store (o .buffer) (o .place) bs
+
+-- The place behind bs, from place n on, is a number of 64 bits.
+pub record Room (bs : List ℕ) (n : ℕ) : Type 0 where
+  pub fits : n + length bs < 2 ^ 64
 
 -- nothing written
 pub blank : {o : Page} → Writes [] o o
@@ -44,3 +48,17 @@ by e h = rw e h
 pub kept : {bs : List ℕ} {o a : Page} → Writes bs o a → length (a .buffer) ≡ length (o .buffer)
 unfolding store
 kept {bs} {o} h = ap length (h .stored) ∙ length-sets (o .buffer) (o .place) bs
+
+-- ---- room for what is written in turn
+
+-- for the first bytes
+pub room-first : {us : List ℕ} (vs : List ℕ) {n : ℕ} → Room (us ++ vs) n → Room us n
+room-first {us} vs r = record { fits = omega (arith, r .fits, length-append us vs) }
+
+-- for those behind them
+pub room-then : {us vs : List ℕ} {o a : Page} → Room (us ++ vs) (o .place) → Writes us o a → Room vs (a .place)
+room-then {us} {vs} r h = record { fits = omega (arith, r .fits, h .counted, length-append us vs) }
+
+-- the same bytes by another name
+pub room-as : {us vs : List ℕ} {n : ℕ} → us ≡ vs → Room us n → Room vs n
+room-as e r = rw e at r

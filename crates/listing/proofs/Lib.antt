@@ -1,0 +1,5 @@
+-- Laws that belong to no one function.
+pub mod Decimals
+pub mod Names
+pub mod Writing
+pub mod Items

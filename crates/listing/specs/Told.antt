@@ -1,0 +1,26 @@
+-- The items whose listing is written.
+use mathlib.Core.Path.{_≡_}
+use mathlib.Core.Option.{Option, none, some}
+use mathlib.Core.List.{List, []}
+use Prim.Native.Nat.{ℕ}
+use Rattle.items.specs.Item.{Item}
+use Rattle.items.specs.Records.{Counts, countsOf, decoded}
+
+-- no items where there are none
+abbrev pub orNone : Option (List Item) → List Item
+orNone none = []
+orNone (some xs) = xs
+
+-- the items of the first n records, none where one of them is no record of an item
+unfoldable pub itemsIn : List ℕ → List ℕ → ℕ → List Item
+itemsIn rs ts n = orNone (decoded rs ts n)
+
+-- The records are those of items, and the counts are theirs.
+pub record Told (rs ts : List ℕ) (c : Counts) : Type 0 where
+  pub decodes : decoded rs ts (c .records) ≡ some (itemsIn rs ts (c .records))
+  pub counts : c ≡ countsOf (itemsIn rs ts (c .records))
+
+-- decoded records are told
+pub items-told : (rs ts : List ℕ) (n : ℕ) (xs : List Item) → decoded rs ts n ≡ some xs → itemsIn rs ts n ≡ xs
+unfolding itemsIn
+items-told rs ts n xs h = rw h
