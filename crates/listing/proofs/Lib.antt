@@ -3,3 +3,4 @@ pub mod Decimals
 pub mod Names
 pub mod Writing
 pub mod Items
+pub mod Decoding
