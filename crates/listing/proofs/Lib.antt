@@ -4,3 +4,4 @@ pub mod Names
 pub mod Writing
 pub mod Items
 pub mod Decoding
+pub mod Whole

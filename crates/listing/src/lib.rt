@@ -193,7 +193,14 @@ fn put_line(out: &mut [u8], at: usize, records: &[u32], texts: &[u8], i: u32) ->
     let word = 3 * (i as usize);
     let told = put_decimal(out, at, i);
     let parted = put_byte(out, told, b' ');
-    let shown = put_item(out, parted, texts, records[word], records[word + 1], records[word + 2]);
+    let shown = put_item(
+        out,
+        parted,
+        texts,
+        records[word],
+        records[word + 1],
+        records[word + 2],
+    );
     put_byte(out, shown, b'\n')
 }
 
@@ -225,7 +232,7 @@ fn put_head(out: &mut [u8], at: usize, c: Count) -> usize
 }
 
 // Writes the listing of the first records, as far as there is room, and gives its length.
-pub fn write_listing(out: &mut [u8], records: &[u32], texts: &[u8], c: Count) -> usize
+pub fn write_listing(records: &[u32], texts: &[u8], c: Count, out: &mut [u8]) -> usize
     requires { ⌜ Told (now records) (now texts) c ⌝ }
     ensures { λ r. ⌜ Writes (listing (itemsIn (now (records .entry)) (now (texts .entry)) (c .records))) (page (now (out .entry)) 0) (page (now (out .exit)) r) ⌝ }
 {
@@ -239,5 +246,5 @@ pub fn listing_length(records: &[u32], texts: &[u8], c: Count) -> usize
     ensures { λ r. ⌜ r ≡ length (listing (itemsIn (now (records .entry)) (now (texts .entry)) (c .records))) ⌝ }
 {
     let mut none: [u8; 0] = [];
-    write_listing(&mut none, records, texts, c)
+    write_listing(records, texts, c, &mut none)
 }

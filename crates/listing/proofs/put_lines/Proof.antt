@@ -24,9 +24,9 @@ put-lines-spec =
     μ-loop
     (λ c. lines-none _ _ _ _)  -- loop-holds
     (λ c κs.
-      let w = c .before in
-      let s = w .before .before .before .before .before in
-      (s .pre .0 _ (w .loop-test .taken), lines-room _ _ _ _ (w .before .loop .inv) (w .loop-test .taken) (s .pre .1)))  -- put-line-requires
+    let w = c .before in
+    let s = w .before .before .before .before .before in
+    (s .pre .0 _ (w .loop-test .taken), lines-room _ _ _ _ (w .before .loop .inv) (w .loop-test .taken) (s .pre .1)))  -- put-line-requires
     (λ c. search needs)  -- add-i
     (λ c. search needs)  -- loop-less
     (λ c. let w = c .before .before .before .before in lines-more _ _ _ _ (w .before .loop .inv) (w .loop-test .taken) (c .before .before .put-line .ensures))  -- loop-again
