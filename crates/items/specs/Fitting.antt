@@ -20,7 +20,8 @@ use Rattle.items.specs.Machine.{State, store, counted, fit, printable, e
 
 -- ---- stores
 
-store-append : (us vs buffer : List ℕ) (at : ℕ) → store (store buffer at us) (at + length us) vs ≡ store buffer at (us ++ vs)
+-- one store after another stores both
+pub store-append : (us vs buffer : List ℕ) (at : ℕ) → store (store buffer at us) (at + length us) vs ≡ store buffer at (us ++ vs)
 unfolding store
 store-append [] vs buffer at = rw (add-zero at)
 store-append (u ∷ us) vs buffer at =

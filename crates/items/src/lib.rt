@@ -142,7 +142,7 @@ fn put_record(buf: &mut [u32], n: u32, kind: u32, first: u32, second: u32)
 }
 
 // Stores b at place at, if there is room.
-fn put_byte(buf: &mut [u8], at: usize, b: u8)
+pub fn put_byte(buf: &mut [u8], at: usize, b: u8)
     ensures { λ _. ⌜ now (buf .exit) ≡ set (now (buf .entry)) at b ⌝ }
 {
     if at < buf.len() {

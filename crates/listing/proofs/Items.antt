@@ -1,0 +1,33 @@
+-- What a record shows, by its kind.
+use mathlib.Core.Path.{_≡_, refl, sym, _∙_}
+use mathlib.Core.Bool.{Bool, true, false, _&&_}
+use mathlib.Core.List.{List}
+use Prim.Native.Nat.{ℕ, _+_, _-_}
+use native.Mathlib.Omega.{arith}
+use lib.Dec.{eqb}
+use lib.ListN.{take, drop}
+use borrow.Author.Tests.{eq-eqb, ne-eqb}
+use Rattle.text.specs.Basic.{ascii}
+use Rattle.listing.specs.Listing.{field}
+use Rattle.listing.specs.Shown.{nameAt, numbered, storedText, shown}
+
+-- a text lies from its offset to its offset and length
+pub text-part : (ts : List ℕ) (a b : ℕ) → take b (drop a ts) ≡ take (a + b - a) (drop a ts)
+text-part ts a b = let e : a + b - a ≡ b = omega arith in rw e
+
+module _ (ts : List ℕ) (k a b : ℕ) where
+  pub shown-text : k ≡ 1 → shown ts k a b ≡ storedText ts a b
+  unfolding shown
+  shown-text h = rw (eq-eqb k 1 h)
+
+  pub shown-lines : (k ≡ 1 → ⊥) → (eqb k 15 && eqb a 1) ≡ true → shown ts k a b ≡ field (nameAt 18) b
+  unfolding shown
+  shown-lines h e = rw (ne-eqb k 1 h, e)
+
+  pub shown-number : {r : Bool} → (k ≡ 1 → ⊥) → (eqb k 15 && eqb a 1) ≡ false → r ≡ numbered k → r ≡ true → shown ts k a b ≡ field (nameAt k) a
+  unfolding shown
+  shown-number h e f g = rw (ne-eqb k 1 h, e, sym f ∙ g)
+
+  pub shown-name : {r : Bool} → (k ≡ 1 → ⊥) → (eqb k 15 && eqb a 1) ≡ false → r ≡ numbered k → r ≡ false → shown ts k a b ≡ ascii (nameAt k)
+  unfolding shown
+  shown-name h e f g = rw (ne-eqb k 1 h, e, sym f ∙ g)

@@ -1,0 +1,44 @@
+use borrow.Author.Needs.{needs}
+use Rattle.listing.specs.Writes.{_▸_, by, kept, room-first, room-then, room-as}
+use Rattle.listing.specs.Shown.{storedText}
+use Rattle.listing.proofs.Items.{text-part}
+use Rattle.listing.proofs.put_text.Statement.{statement}
+use Rattle.listing.proofs.put_text.Tie as tie
+
+returns : tie.Need-returns
+unfolding storedText
+returns c =
+    let c3 = c .before .before in
+    let c2 = c3 .before .before .before .before .before in
+    let c1 = c2 .before .before .before .before in
+    let s = c1 .before .before .before .before in
+    c1 .put-field .ensures ▸ c2 .put-byte .ensures ▸ by (text-part (s .args .texts .now) (s .args .offset) (s .args .bytes)) (c3 .put-bytes .ensures)
+
+put-field-requires : tie.Need-put-field-requires
+unfolding storedText
+put-field-requires c κs = (search needs, room-first _ (c .before .before .before .pre .1))
+
+put-byte-requires : tie.Need-put-byte-requires
+unfolding storedText
+put-byte-requires c κs = room-first _ (room-then (c .before .before .before .before .before .before .before .pre .1) (c .before .before .before .put-field .ensures))
+
+put-bytes-requires : tie.Need-put-bytes-requires
+unfolding storedText
+put-bytes-requires c κs =
+    let s = c .before .before .before .before .before .before .before .before .before .before .before .before in
+    room-as (text-part (s .args .texts .now) (s .args .offset) (s .args .bytes)) (room-then (room-then (s .pre .1) (c .before .before .before .before .before .before .before .before .put-field .ensures)) (c .before .before .before .before .put-byte .ensures))
+
+pub put-text-spec : {M : Type 1} → statement M
+put-text-spec =
+    tie.close
+    (tie.spec
+    (λ c. search needs)  -- add-end
+    put-field-requires  -- put-field-requires
+    put-byte-requires  -- put-byte-requires
+    (λ c. search needs)  -- sub-put-bytes
+    (λ c. search needs)  -- part-put-bytes-start
+    (λ c. search needs)  -- part-put-bytes-end
+    put-bytes-requires  -- put-bytes-requires
+    (λ c. kept (returns c))  -- same-length
+    returns  -- returns
+    )

@@ -1,0 +1,64 @@
+-- What the private functions write, by the numbers of records and of names. Only contracts of private functions cite this.
+use mathlib.Core.Path.{_≡_}
+use mathlib.Core.Bool.{Bool, cond, _&&_, _||_}
+use mathlib.Core.List.{List, [], _∷_, _++_, flatten, map}
+use Prim.Native.Nat.{ℕ, zero, suc, _+_, _*_, _<_, _≤_}
+use Prim.Native.String.{String}
+use lib.Dec.{leb, eqb}
+use lib.ListN.{length, getD, take, drop}
+use Rattle.text.specs.Basic.{ascii}
+use Rattle.listing.specs.Listing.{decimal, field}
+
+-- the names in the listing: those of the kinds by their numbers, 15 that of `if always`, and then others
+unfoldable pub names : List String
+names =
+    "" ∷ "text" ∷ "newline" ∷ "space-or-newline" ∷ "tab" ∷ "indent" ∷ "outdent" ∷ "mark" ∷ "group" ∷ "group-end" ∷ "block" ∷ "block-end" ∷ "run" ∷ "run-end"
+    ∷ "again" ∷ "if always" ∷ "else" ∷ "end-if" ∷ "if lines" ∷ "records" ∷ " texts" ∷ " runs" ∷ " marks"
+    ∷ []
+
+-- the name with a number
+unfoldable pub nameAt : ℕ → String
+nameAt w = getD names w ""
+
+-- all names joined
+abbrev pub joined : List ℕ
+joined = flatten (map ascii names)
+
+-- where the name with a number starts among them
+unfoldable pub startOf : ℕ → ℕ
+startOf w = length (flatten (take w (map ascii names)))
+
+-- the records of this kind have one number: mark, run, run-end and again
+abbrev pub numbered : ℕ → Bool
+numbered k = eqb k 7 || (leb 12 k && leb k 14)
+
+-- 'for text, the length and the text as stored', by its offset and length
+unfoldable pub storedText : List ℕ → ℕ → ℕ → List ℕ
+storedText ts a b = field (nameAt 1) b ++ (32 ∷ take b (drop a ts))
+
+-- a record's kind and operands
+unfoldable pub shown : List ℕ → ℕ → ℕ → ℕ → List ℕ
+shown ts k a b =
+    cond (eqb k 1) (storedText ts a b)
+    (cond (eqb k 15 && eqb a 1) (field (nameAt 18) b)
+    (cond (numbered k) (field (nameAt k) a)
+    (ascii (nameAt k))))
+
+-- A record that can be shown: its kind is known, and a text lies in the text buffer.
+pub record Readable (ts : List ℕ) (k a b : ℕ) : Type 0 where
+  pub known : k < 18
+  pub inside : k ≡ 1 → a + b ≤ length ts
+
+-- Record i lies in the record buffer and can be shown.
+pub record Line (rs ts : List ℕ) (i : ℕ) : Type 0 where
+  pub inside : 3 * i + 3 ≤ length rs
+  pub known : Readable ts (getD rs (3 * i) 0) (getD rs (3 * i + 1) 0) (getD rs (3 * i + 2) 0)
+
+-- the line of record i
+unfoldable pub lineAt : List ℕ → List ℕ → ℕ → List ℕ
+lineAt rs ts i = decimal i ++ (32 ∷ (shown ts (getD rs (3 * i) 0) (getD rs (3 * i + 1) 0) (getD rs (3 * i + 2) 0) ++ (10 ∷ [])))
+
+-- the lines of m records from record i on
+unfoldable pub linesFrom : List ℕ → List ℕ → ℕ → ℕ → List ℕ
+linesFrom rs ts i zero = []
+linesFrom rs ts i (suc m) = lineAt rs ts i ++ linesFrom rs ts (suc i) m

@@ -1,0 +1,34 @@
+-- The items whose listing is written.
+use mathlib.Core.Path.{_≡_, refl}
+use mathlib.Core.Option.{Option, none, some}
+use mathlib.Core.List.{List, [], _++_}
+use Prim.Native.Nat.{ℕ}
+use Rattle.items.specs.Item.{Item}
+use Rattle.items.specs.Records.{words, bytes, Counts, countsOf, decoded, decoded-is}
+
+-- no items where there are none
+abbrev pub orNone : Option (List Item) → List Item
+orNone none = []
+orNone (some xs) = xs
+
+-- the items of the first n records, none where one of them is no record of an item
+unfoldable pub itemsIn : List ℕ → List ℕ → ℕ → List Item
+itemsIn rs ts n = orNone (decoded rs ts n)
+
+-- The records are those of items, and the counts are theirs.
+pub record Told (rs ts : List ℕ) (c : Counts) : Type 0 where
+  pub decodes : decoded rs ts (c .records) ≡ some (itemsIn rs ts (c .records))
+  pub counts : c ≡ countsOf (itemsIn rs ts (c .records))
+
+-- records that decode to xs have these items
+pub items-are : (rs ts : List ℕ) (n : ℕ) (xs : List Item) → decoded rs ts n ≡ some xs → itemsIn rs ts n ≡ xs
+unfolding itemsIn
+items-are rs ts n xs h = rw h
+
+-- records that decode to xs, with the counts of xs, are told
+pub told : (rs ts : List ℕ) (c : Counts) (xs : List Item) → decoded rs ts (c .records) ≡ some xs → c ≡ countsOf xs → Told rs ts c
+told rs ts c xs h e = let i = items-are rs ts (c .records) xs h in record { decodes = rw i h; counts = rw i e }
+
+-- the records and texts of any items are told, whatever stands behind them
+pub items-told : (xs : List Item) (ws ts : List ℕ) → Told (words 0 xs ++ ws) (bytes xs ++ ts) (countsOf xs)
+items-told xs ws ts = told (words 0 xs ++ ws) (bytes xs ++ ts) (countsOf xs) xs (decoded-is xs ws ts) refl

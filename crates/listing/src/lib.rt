@@ -1,0 +1,250 @@
+// The listing of records, written into a lent buffer.
+use items::Count;
+ghost use mathlib.Core.Path.{_≡_};
+ghost use mathlib.Core.List.{[], _∷_};
+ghost use Prim.Native.Nat.{ℕ, _<_, _+_, _≤_};
+ghost use lib.ListN.{length};
+ghost use Rattle.text.specs.Basic.{ascii};
+ghost use Rattle.listing.specs.Listing.{decimal, field, headLine, listing};
+ghost use Rattle.listing.specs.Writes.{page, Writes, Room};
+ghost use Rattle.listing.specs.Shown.{nameAt, startOf, numbered, storedText, shown, Readable, Line, lineAt, linesFrom};
+ghost use Rattle.listing.specs.Told.{itemsIn, Told};
+
+// The kinds of records that are more than a name and a number.
+const TEXT: u32 = 1;
+
+const MARK: u32 = 7;
+
+const RUN: u32 = 12;
+
+const AGAIN: u32 = 14;
+
+const IF: u32 = 15;
+
+// The first operand of a condition on lines.
+const LINES: u32 = 1;
+
+// Names besides those of the kinds.
+const IF_LINES: u32 = 18;
+
+const RECORDS: u32 = 19;
+
+const TEXTS: u32 = 20;
+
+const RUNS: u32 = 21;
+
+const MARKS: u32 = 22;
+
+// Where each name starts in the byte string of all names, and where the last one ends.
+const STARTS: [u8; 24] = [
+    0,
+    0,
+    4,
+    11,
+    27,
+    30,
+    36,
+    43,
+    47,
+    52,
+    61,
+    66,
+    75,
+    78,
+    85,
+    90,
+    99,
+    103,
+    109,
+    117,
+    124,
+    130,
+    135,
+    141,
+];
+
+// Writes one byte, if there is room.
+fn put_byte(out: &mut [u8], at: usize, b: u8) -> usize
+    requires { ⌜ Room (b ∷ []) at ⌝ }
+    ensures { λ r. ⌜ Writes (b ∷ []) (page (now (out .entry)) at) (page (now (out .exit)) r) ⌝ }
+{
+    items::put_byte(out, at, b);
+    at + 1
+}
+
+// Writes the bytes of s, as far as there is room.
+fn put_bytes(out: &mut [u8], at: usize, s: &[u8]) -> usize
+    requires { ⌜ Room (now s) at ⌝ }
+    ensures { λ r. ⌜ Writes (now (s .entry)) (page (now (out .entry)) at) (page (now (out .exit)) r) ⌝ }
+{
+    let mut next = at;
+    let mut i = 0;
+    while i < s.len() {
+        next = put_byte(out, next, s[i]);
+        i += 1;
+    }
+    next
+}
+
+// A digit as a byte.
+fn digit(n: u32) -> u8
+    requires { ⌜ n < 10 ⌝ }
+    ensures { λ r. ⌜ r ≡ 48 + n ⌝ }
+{
+    48 + (n as u8)
+}
+
+// Writes a number in decimal.
+fn put_decimal(out: &mut [u8], at: usize, n: u32) -> usize
+    requires { ⌜ Room (decimal n) at ⌝ }
+    ensures { λ r. ⌜ Writes (decimal n) (page (now (out .entry)) at) (page (now (out .exit)) r) ⌝ }
+{
+    if n < 10 {
+        return put_byte(out, at, digit(n));
+    }
+    let next = put_decimal(out, at, n / 10);
+    put_byte(out, next, digit(n % 10))
+}
+
+// A place as a number.
+fn wide(x: u8) -> usize
+    ensures { λ r. ⌜ r ≡ x ⌝ }
+{
+    x as usize
+}
+
+// Where the name with a number starts, which is where the one before it ends.
+fn start_of(w: u32) -> usize
+    requires { ⌜ w < 24 ⌝ }
+    ensures { λ r. ⌜ r ≡ startOf w ⌝ }
+{
+    let at = w as usize;
+    wide(STARTS[at])
+}
+
+// Writes the name with a number.
+fn put_name(out: &mut [u8], at: usize, w: u32) -> usize
+    requires known { ⌜ w < 23 ⌝ }
+    requires room { ⌜ Room (ascii (nameAt w)) at ⌝ }
+    ensures { λ r. ⌜ Writes (ascii (nameAt w)) (page (now (out .entry)) at) (page (now (out .exit)) r) ⌝ }
+{
+    let all: &[u8] =
+        b"textnewlinespace-or-newlinetabindentoutdentmarkgroupgroup-endblockblock-endrunrun-endagainif alwayselseend-ifif linesrecords texts runs marks";
+    let start = start_of(w);
+    let end = start_of(w + 1);
+    put_bytes(out, at, &all[start..end])
+}
+
+// Writes a name and a number.
+fn put_field(out: &mut [u8], at: usize, w: u32, n: u32) -> usize
+    requires known { ⌜ w < 23 ⌝ }
+    requires room { ⌜ Room (field (nameAt w) n) at ⌝ }
+    ensures { λ r. ⌜ Writes (field (nameAt w) n) (page (now (out .entry)) at) (page (now (out .exit)) r) ⌝ }
+{
+    let named = put_name(out, at, w);
+    let parted = put_byte(out, named, b' ');
+    put_decimal(out, parted, n)
+}
+
+// Writes a text by its offset and length.
+fn put_text(out: &mut [u8], at: usize, texts: &[u8], offset: u32, bytes: u32) -> usize
+    requires inside { ⌜ offset + bytes ≤ length (now texts) ⌝ }
+    requires room { ⌜ Room (storedText (now texts) offset bytes) at ⌝ }
+    ensures { λ r. ⌜ Writes (storedText (now (texts .entry)) offset bytes) (page (now (out .entry)) at) (page (now (out .exit)) r) ⌝ }
+{
+    let start = offset as usize;
+    let end = start + (bytes as usize);
+    let told = put_field(out, at, TEXT, bytes);
+    let parted = put_byte(out, told, b' ');
+    put_bytes(out, parted, &texts[start..end])
+}
+
+// The records of this kind have one number.
+fn is_numbered(kind: u32) -> bool
+    ensures { λ r. ⌜ r ≡ numbered kind ⌝ }
+{
+    (kind == MARK) | ((RUN <= kind) & (kind <= AGAIN))
+}
+
+// Writes a record's kind and operands.
+fn put_item(out: &mut [u8], at: usize, texts: &[u8], kind: u32, first: u32, second: u32) -> usize
+    requires known { ⌜ Readable (now texts) kind first second ⌝ }
+    requires room { ⌜ Room (shown (now texts) kind first second) at ⌝ }
+    ensures { λ r. ⌜ Writes (shown (now (texts .entry)) kind first second) (page (now (out .entry)) at) (page (now (out .exit)) r) ⌝ }
+{
+    if kind == TEXT {
+        return put_text(out, at, texts, first, second);
+    }
+    if (kind == IF) & (first == LINES) {
+        return put_field(out, at, IF_LINES, second);
+    }
+    if is_numbered(kind) {
+        return put_field(out, at, kind, first);
+    }
+    put_name(out, at, kind)
+}
+
+// Writes the line of record i.
+fn put_line(out: &mut [u8], at: usize, records: &[u32], texts: &[u8], i: u32) -> usize
+    requires known { ⌜ Line (now records) (now texts) i ⌝ }
+    requires room { ⌜ Room (lineAt (now records) (now texts) i) at ⌝ }
+    ensures { λ r. ⌜ Writes (lineAt (now (records .entry)) (now (texts .entry)) i) (page (now (out .entry)) at) (page (now (out .exit)) r) ⌝ }
+{
+    let word = 3 * (i as usize);
+    let told = put_decimal(out, at, i);
+    let parted = put_byte(out, told, b' ');
+    let shown = put_item(
+        out,
+        parted,
+        texts,
+        records[word],
+        records[word + 1],
+        records[word + 2],
+    );
+    put_byte(out, shown, b'\n')
+}
+
+// Writes the lines of the first n records.
+fn put_lines(out: &mut [u8], at: usize, records: &[u32], texts: &[u8], n: u32) -> usize
+    requires known { ⌜ ((i : ℕ) → i < n → Line (now records) (now texts) i) ⌝ }
+    requires room { ⌜ Room (linesFrom (now records) (now texts) 0 n) at ⌝ }
+    ensures { λ r. ⌜ Writes (linesFrom (now (records .entry)) (now (texts .entry)) 0 n) (page (now (out .entry)) at) (page (now (out .exit)) r) ⌝ }
+{
+    let mut next = at;
+    let mut i = 0;
+    while i < n {
+        next = put_line(out, next, records, texts, i);
+        i += 1;
+    }
+    next
+}
+
+// Writes the line of counts.
+fn put_head(out: &mut [u8], at: usize, c: Count) -> usize
+    requires { ⌜ Room (headLine c) at ⌝ }
+    ensures { λ r. ⌜ Writes (headLine c) (page (now (out .entry)) at) (page (now (out .exit)) r) ⌝ }
+{
+    let records = put_field(out, at, RECORDS, c.records);
+    let texts = put_field(out, records, TEXTS, c.texts);
+    let runs = put_field(out, texts, RUNS, c.runs);
+    let marks = put_field(out, runs, MARKS, c.marks);
+    put_byte(out, marks, b'\n')
+}
+
+// Writes the listing of the first records, as far as there is room, and gives its length.
+pub fn write_listing(records: &[u32], texts: &[u8], c: Count, out: &mut [u8]) -> usize
+    requires { ⌜ Told (now records) (now texts) c ⌝ }
+    ensures { λ r. ⌜ Writes (listing (itemsIn (now (records .entry)) (now (texts .entry)) (c .records))) (page (now (out .entry)) 0) (page (now (out .exit)) r) ⌝ }
+{
+    let head = put_head(out, 0, c);
+    put_lines(out, head, records, texts, c.records)
+}
+
+// The length of the listing of the first records.
+pub fn listing_length(records: &[u32], texts: &[u8], c: Count) -> usize
+    requires { ⌜ Told (now records) (now texts) c ⌝ }
+    ensures { λ r. ⌜ r ≡ length (listing (itemsIn (now (records .entry)) (now (texts .entry)) (c .records))) ⌝ }
+{
+    let mut none: [u8; 0] = [];
+    write_listing(records, texts, c, &mut none)
+}
