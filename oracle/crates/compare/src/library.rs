@@ -111,8 +111,8 @@ impl Buffers {
         self.take(answer, counts)
     }
 
-    /// The answer to an image, or what is wrong with it.
-    pub fn print(&mut self, image: &[u8]) -> Result<Answer, String> {
+    /// The call by itself: the number and the five values.
+    pub fn call(&mut self, image: &[u8]) -> (u32, [u64; 5]) {
         let mut values = [u64::from(FILL); 5];
         // The pointers and lengths are those of slices that live until the call
         // ends, and no two of them overlap.
@@ -127,6 +127,12 @@ impl Buffers {
                 &mut values,
             )
         };
+        (number, values)
+    }
+
+    /// The answer to an image, or what is wrong with it.
+    pub fn print(&mut self, image: &[u8]) -> Result<Answer, String> {
+        let (number, values) = self.call(image);
         let [counts @ .., element] = values;
         if number != 0 {
             if self.changed(0, 0) || counts != [0; 4] {

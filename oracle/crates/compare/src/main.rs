@@ -1,5 +1,6 @@
 //! `compare [SEED [COUNT]]` holds the library against the original, in one
 //! process. It prints what was compared and the smallest input that differs.
+//! `compare --speed` times both instead.
 
 use std::{process::ExitCode, time::Instant};
 
@@ -20,16 +21,23 @@ mod library;
 mod refusals;
 #[cfg_attr(not(library), allow(dead_code))]
 mod report;
+#[cfg(library)]
+mod speed;
 
 use report::Report;
 
 fn main() -> ExitCode {
+    #[cfg(library)]
+    if std::env::args().skip(1).eq(["--speed"]) {
+        deep(speed::run);
+        return ExitCode::SUCCESS;
+    }
     let mut words = std::env::args().skip(1).map(|w| w.parse::<u64>());
     let numbers = [words.next(), words.next()];
     let [Ok(seed), Ok(count)] = [(0, DEFAULT_SEED), (1, DEFAULT_COUNT)]
         .map(|(n, usual)| numbers[n].clone().unwrap_or(Ok(usual)))
     else {
-        eprintln!("usage: compare [SEED [COUNT]]");
+        eprintln!("usage: compare [SEED [COUNT]] | compare --speed (with the library)");
         return ExitCode::FAILURE;
     };
     let reports = deep(|| run(seed, count));
