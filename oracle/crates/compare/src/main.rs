@@ -76,8 +76,10 @@ fn run(seed: u64, count: u64) -> Vec<Report> {
 fn compare(images: &[Vec<u8>], seed: u64) -> Vec<Report> {
     let (refusals, counts) = refusals::compare(images, seed);
     println!("images by refusal, from none to 9: {counts:?}");
+    let start = Instant::now();
     let (printed, counts) = images::compare(images, seed);
-    println!("calls by answer, printed and then refusals 1 to 12: {counts:?}");
+    let rate = counts.iter().sum::<u64>() as f64 / start.elapsed().as_secs_f64();
+    println!("calls by answer, printed and then refusals 1 to 12: {counts:?}, {rate:.0} a second");
     vec![
         refusals,
         printed,
