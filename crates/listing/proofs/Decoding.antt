@@ -1,9 +1,9 @@
 -- What the words of a record show of the item that they decode to.
-use mathlib.Core.Path.{_≡_, refl, sym, ap, _∙_}
+use mathlib.Core.Path.{_≡_, refl}
 use mathlib.Core.Bool.{Bool, true, false, cond, _&&_}
 use mathlib.Core.Option.{Option, none, some}
-use mathlib.Core.List.{List, [], _∷_, _++_}
-use Prim.Native.Nat.{ℕ, zero, suc, _+_, _*_, _-_, _<_, _≤_, _^_}
+use mathlib.Core.List.{List, _∷_}
+use Prim.Native.Nat.{ℕ, _+_, _<_, _≤_, _^_}
 use native.Mathlib.Omega.{arith}
 use lib.Dec.{leb, eqb}
 use lib.ListN.{length, take, drop, length-append, length-drop}

@@ -1,10 +1,10 @@
 -- The rules of the table of names, each by one computed test over the whole table.
 use mathlib.Core.Path.{_≡_, refl, sym, _∙_}
 use mathlib.Core.Bool.{true, _&&_}
-use mathlib.Core.List.{List, [], flatten}
+use mathlib.Core.List.{[], flatten}
 use Prim.Native.Nat.{ℕ, _+_, _-_, _<_, _≤_}
 use lib.Dec.{leb}
-use lib.ListN.{length, take, drop}
+use lib.ListN.{take, drop}
 use borrow.Author.Tests.{leb-true}
 use Rattle.text.specs.Basic.{ascii, and-true}
 use Rattle.text.proofs.Table.{tabled-at}

@@ -11,8 +11,8 @@ use lib.ListN.{length, getD, drop, length-append, length-drop}
 use lib.Seq.{getD-drop, drop-drop}
 use borrow.Author.Tests.{eqb-true, eqb-false}
 use Rattle.items.specs.Item.{Item}
-use Rattle.items.specs.Records.{bytesOf, bytes, Counts, countsOf, itemOf, cons, decoded}
-use Rattle.listing.specs.Listing.{field, decimal, described, recordLines, headLine, listing}
+use Rattle.items.specs.Records.{bytes, Counts, itemOf, cons, decoded}
+use Rattle.listing.specs.Listing.{recordLines, headLine, listing}
 use Rattle.listing.specs.Writes.{Room}
 use Rattle.listing.specs.Shown.{Line, lineAt, linesFrom}
 use Rattle.listing.specs.Told.{itemsIn, Told}

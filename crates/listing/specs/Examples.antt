@@ -1,7 +1,6 @@
 -- The example of a listing: 'For the tree of `[1]` without spaces'.
 use mathlib.Core.Path.{_≡_, refl}
 use mathlib.Core.List.{List, [], _∷_, _++_, flatten, map}
-use Prim.Native.Nat.{ℕ}
 use Prim.Native.String.{String}
 use Rattle.text.specs.Basic.{ascii, sum}
 use Rattle.items.specs.Item.{lines, Item, text, newline, spaceOrNewline, mark, group, groupEnd, block, blockEnd, run, runEnd, again, ifTest, elseItem, endIf}

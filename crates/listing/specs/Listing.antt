@@ -43,14 +43,18 @@ described (ifTest (lines n)) = field "if lines" n
 described elseItem = ascii "else"
 described endIf = ascii "end-if"
 
--- 'Then one line for each record: its number, ..', from number n on
+-- 'one line for each record: its number, the kind's name as above, its operands'
+abbrev pub recordLine : ℕ → Item → List ℕ
+recordLine n x = decimal n ++ (32 ∷ (described x ++ (10 ∷ [])))
+
+-- the lines of items, from number n on
 unfoldable pub recordLines : ℕ → List Item → List ℕ
 recordLines n [] = []
-recordLines n (x ∷ xs) = (decimal n ++ (32 ∷ (described x ++ (10 ∷ [])))) ++ recordLines (suc n) xs
+recordLines n (x ∷ xs) = recordLine n x ++ recordLines (suc n) xs
 
 -- 'First line: the four counts (`texts` is text bytes)'
 unfoldable pub headLine : Counts → List ℕ
-headLine c = field "records" (c .records) ++ (field " texts" (c .texts) ++ (field " runs" (c .runs) ++ (field " marks" (c .marks) ++ (10 ∷ []))))
+headLine c = field "records" (c .records) ++ (32 ∷ (field "texts" (c .texts) ++ (32 ∷ (field "runs" (c .runs) ++ (32 ∷ (field "marks" (c .marks) ++ (10 ∷ [])))))))
 
 -- the listing of items
 unfoldable pub listing : List Item → List ℕ

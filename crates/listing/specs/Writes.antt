@@ -1,6 +1,6 @@
 -- What a function that writes bytes into a lent buffer promises, and how such promises are put together.
 use mathlib.Core.Path.{_≡_, refl, sym, ap, _∙_}
-use mathlib.Core.List.{List, [], _∷_, _++_}
+use mathlib.Core.List.{List, [], _++_}
 use Prim.Native.Nat.{ℕ, _+_, _<_, _^_}
 use native.Mathlib.Omega.{arith}
 use native.Mathlib.Nat.{add-zero}
@@ -55,9 +55,10 @@ kept {bs} {o} h = ap length (h .stored) ∙ length-sets (o .buffer) (o .place) b
 pub room-first : {us : List ℕ} (vs : List ℕ) {n : ℕ} → Room (us ++ vs) n → Room us n
 room-first {us} vs r = record { fits = omega (arith, r .fits, length-append us vs) }
 
--- for those behind them
-pub room-then : {us vs : List ℕ} {o a : Page} → Room (us ++ vs) (o .place) → Writes us o a → Room vs (a .place)
-room-then {us} {vs} r h = record { fits = omega (arith, r .fits, h .counted, length-append us vs) }
+infixl 50 _⟫_
+-- for those behind them, once they are written
+pub _⟫_ : {us vs : List ℕ} {o a : Page} → Room (us ++ vs) (o .place) → Writes us o a → Room vs (a .place)
+_⟫_ {us} {vs} r h = record { fits = omega (arith, r .fits, h .counted, length-append us vs) }
 
 -- the same bytes by another name
 pub room-as : {us vs : List ℕ} {n : ℕ} → us ≡ vs → Room us n → Room vs n

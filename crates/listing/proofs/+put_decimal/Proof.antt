@@ -4,7 +4,7 @@ use native.Mathlib.Omega.{arith}
 use borrow.Author.Needs.{needs}
 use borrow.Fn.Kinds.{In}
 use borrow.Fn.PlainCycle.{Measures, is, falls, and}
-use Rattle.listing.specs.Writes.{by, _▸_, kept, room-first, room-then, room-as}
+use Rattle.listing.specs.Writes.{by, _▸_, kept, room-first, _⟫_, room-as}
 use Rattle.listing.proofs.Decimals.{one-digit, last-digit}
 use Rattle.listing.proofs.put_decimal.Reads as put-decimal
 use Rattle.listing.proofs.put_decimal.Kinds as put-decimal-kinds
@@ -41,7 +41,7 @@ module _ (t : ℕ) where
   put-byte-requires-2 : lts.Need-put-byte-requires-2 (claims t) (put-decimal-at t) put-decimal.Post
   put-byte-requires-2 c κs =
       let e = c .before .before .before .before in
-      room-then (room-as (last-digit _ _ (e .before .before .if1 .left) (c .digit2 .ensures)) (e .before .before .before .before .pre .1)) (e .put-decimal .ensures)
+      room-as (last-digit _ _ (e .before .before .if1 .left) (c .digit2 .ensures)) (e .before .before .before .before .pre .1) ⟫ e .put-decimal .ensures
 
   returns-2 : lts.Need-returns-2 (claims t) (put-decimal-at t) put-decimal.Post
   returns-2 c =

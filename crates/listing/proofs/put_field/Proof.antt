@@ -1,4 +1,4 @@
-use Rattle.listing.specs.Writes.{_▸_, kept, room-first, room-then}
+use Rattle.listing.specs.Writes.{_▸_, kept, room-first, _⟫_}
 use Rattle.listing.proofs.put_field.Statement.{statement}
 use Rattle.listing.proofs.put_field.Tie as tie
 
@@ -14,8 +14,8 @@ put-field-spec =
     tie.close
     (tie.spec
     (λ c κs. (c .before .before .pre .0, room-first _ (c .before .before .pre .1)))  -- put-name-requires
-    (λ c κs. room-first _ (room-then (c .before .before .before .before .before .before .pre .1) (c .before .before .before .put-name .ensures)))  -- put-byte-requires
-    (λ c κs. room-then (room-then (c .before .before .before .before .before .before .before .before .before .before .pre .1) (c .before .before .before .before .before .before .before .put-name .ensures)) (c .before .before .before .put-byte .ensures))  -- put-decimal-requires
+    (λ c κs. room-first _ (c .before .before .before .before .before .before .pre .1 ⟫ c .before .before .before .put-name .ensures))  -- put-byte-requires
+    (λ c κs. c .before .before .before .before .before .before .before .before .before .before .pre .1 ⟫ c .before .before .before .before .before .before .before .put-name .ensures ⟫ c .before .before .before .put-byte .ensures)  -- put-decimal-requires
     (λ c. kept (returns c))  -- same-length
     returns  -- returns
     )

@@ -1,44 +1,17 @@
 use borrow.Author.Needs.{needs}
-use Rattle.listing.specs.Writes.{_▸_, kept, room-first, room-then}
+use Rattle.listing.specs.Writes.{_▸_, kept, room-first, _⟫_}
 use Rattle.listing.specs.Listing.{headLine}
 use Rattle.listing.specs.Shown.{names, nameAt}
 use Rattle.listing.proofs.put_head.Statement.{statement}
 use Rattle.listing.proofs.put_head.Tie as tie
 
-put-field-requires : tie.Need-put-field-requires
-unfolding headLine names nameAt
-put-field-requires c κs =
-    (search needs, room-first _ (c .before .before .pre))
-
-put-field-requires-2 : tie.Need-put-field-requires-2
-unfolding headLine names nameAt
-put-field-requires-2 c κs =
-    let c1 = c .before .before .before in
-    (search needs, room-first _ (room-then (c1 .before .before .before .pre) (c1 .put-field .ensures)))
-
-put-field-requires-3 : tie.Need-put-field-requires-3
-unfolding headLine names nameAt
-put-field-requires-3 c κs =
-    let c2 = c .before .before .before in
-    let c1 = c2 .before .before .before .before in
-    (search needs, room-first _ (room-then (room-then (c1 .before .before .before .pre) (c1 .put-field .ensures)) (c2 .put-field2 .ensures)))
-
 put-field-requires-4 : tie.Need-put-field-requires-4
 unfolding headLine names nameAt
-put-field-requires-4 c κs =
-    let c3 = c .before .before .before in
-    let c2 = c3 .before .before .before .before in
-    let c1 = c2 .before .before .before .before in
-    (search needs, room-first _ (room-then (room-then (room-then (c1 .before .before .before .pre) (c1 .put-field .ensures)) (c2 .put-field2 .ensures)) (c3 .put-field3 .ensures)))
+put-field-requires-4 c κs = (search needs, room-first _ (c .before .before .before .before .before .before .before .before .before .before .before .before .before .before .pre ⟫ c .before .before .before .before .before .before .before .before .before .before .before .put-field .ensures ⟫ c .before .before .before .before .before .before .before .put-field2 .ensures ⟫ c .before .before .before .put-field3 .ensures))
 
 put-byte-requires : tie.Need-put-byte-requires
 unfolding headLine names nameAt
-put-byte-requires c κs =
-    let c4 = c .before .before .before in
-    let c3 = c4 .before .before .before .before in
-    let c2 = c3 .before .before .before .before in
-    let c1 = c2 .before .before .before .before in
-    room-then (room-then (room-then (room-then (c1 .before .before .before .pre) (c1 .put-field .ensures)) (c2 .put-field2 .ensures)) (c3 .put-field3 .ensures)) (c4 .put-field4 .ensures)
+put-byte-requires c κs = c .before .before .before .before .before .before .before .before .before .before .before .before .before .before .before .before .before .before .pre ⟫ c .before .before .before .before .before .before .before .before .before .before .before .before .before .before .before .put-field .ensures ⟫ c .before .before .before .before .before .before .before .before .before .before .before .put-field2 .ensures ⟫ c .before .before .before .before .before .before .before .put-field3 .ensures ⟫ c .before .before .before .put-field4 .ensures
 
 returns : tie.Need-returns
 unfolding headLine names nameAt
@@ -51,12 +24,13 @@ returns c =
     c1 .put-field .ensures ▸ c2 .put-field2 .ensures ▸ c3 .put-field3 .ensures ▸ c4 .put-field4 .ensures ▸ c5 .put-byte .ensures
 
 pub put-head-spec : {M : Type 1} → statement M
+unfolding headLine names nameAt
 put-head-spec =
     tie.close
     (tie.spec
-    put-field-requires  -- put-field-requires
-    put-field-requires-2  -- put-field-requires-2
-    put-field-requires-3  -- put-field-requires-3
+    (λ c κs. (search needs, room-first _ (c .before .before .pre)))  -- put-field-requires
+    (λ c κs. (search needs, room-first _ (c .before .before .before .before .before .before .pre ⟫ c .before .before .before .put-field .ensures)))  -- put-field-requires-2
+    (λ c κs. (search needs, room-first _ (c .before .before .before .before .before .before .before .before .before .before .pre ⟫ c .before .before .before .before .before .before .before .put-field .ensures ⟫ c .before .before .before .put-field2 .ensures)))  -- put-field-requires-3
     put-field-requires-4  -- put-field-requires-4
     put-byte-requires  -- put-byte-requires
     (λ c. kept (returns c))  -- same-length

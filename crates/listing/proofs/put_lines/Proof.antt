@@ -12,9 +12,13 @@ abbrev μ-loop : tie.MeasureT-loop
 μ-loop out₀ at records texts n next₀ i₀ out next i = n - i
 
 returns : tie.Need-returns Inv-loop μ-loop
-returns c =
-    let s = c .before .before .before .before .before in
-    lines-all _ _ _ _ (c .before .loop .inv) (c .loop-test .left)
+returns c = lines-all _ _ _ _ (c .before .loop .inv) (c .loop-test .left)
+
+put-line-requires : tie.Need-put-line-requires Inv-loop μ-loop
+put-line-requires c κs =
+    let w = c .before in
+    let s = w .before .before .before .before .before in
+    (s .pre .0 _ (w .loop-test .taken), lines-room _ _ _ _ (w .before .loop .inv) (w .loop-test .taken) (s .pre .1))
 
 pub put-lines-spec : {M : Type 1} → statement M
 put-lines-spec =
@@ -23,10 +27,7 @@ put-lines-spec =
     Inv-loop
     μ-loop
     (λ c. lines-none _ _ _ _)  -- loop-holds
-    (λ c κs.
-    let w = c .before in
-    let s = w .before .before .before .before .before in
-    (s .pre .0 _ (w .loop-test .taken), lines-room _ _ _ _ (w .before .loop .inv) (w .loop-test .taken) (s .pre .1)))  -- put-line-requires
+    put-line-requires  -- put-line-requires
     (λ c. search needs)  -- add-i
     (λ c. search needs)  -- loop-less
     (λ c. let w = c .before .before .before .before in lines-more _ _ _ _ (w .before .loop .inv) (w .loop-test .taken) (c .before .before .put-line .ensures))  -- loop-again

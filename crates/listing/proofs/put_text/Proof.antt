@@ -1,9 +1,15 @@
 use borrow.Author.Needs.{needs}
-use Rattle.listing.specs.Writes.{_▸_, by, kept, room-first, room-then, room-as}
+use Rattle.listing.specs.Writes.{_▸_, by, kept, room-first, _⟫_, room-as}
 use Rattle.listing.specs.Shown.{storedText}
 use Rattle.listing.proofs.Items.{text-part}
 use Rattle.listing.proofs.put_text.Statement.{statement}
 use Rattle.listing.proofs.put_text.Tie as tie
+
+put-bytes-requires : tie.Need-put-bytes-requires
+unfolding storedText
+put-bytes-requires c κs =
+    let s = c .before .before .before .before .before .before .before .before .before .before .before .before in
+    room-as (text-part (s .args .texts .now) (s .args .offset) (s .args .bytes)) (s .pre .1 ⟫ c .before .before .before .before .before .before .before .before .put-field .ensures ⟫ c .before .before .before .before .put-byte .ensures)
 
 returns : tie.Need-returns
 unfolding storedText
@@ -14,27 +20,14 @@ returns c =
     let s = c1 .before .before .before .before in
     c1 .put-field .ensures ▸ c2 .put-byte .ensures ▸ by (text-part (s .args .texts .now) (s .args .offset) (s .args .bytes)) (c3 .put-bytes .ensures)
 
-put-field-requires : tie.Need-put-field-requires
-unfolding storedText
-put-field-requires c κs = (search needs, room-first _ (c .before .before .before .pre .1))
-
-put-byte-requires : tie.Need-put-byte-requires
-unfolding storedText
-put-byte-requires c κs = room-first _ (room-then (c .before .before .before .before .before .before .before .pre .1) (c .before .before .before .put-field .ensures))
-
-put-bytes-requires : tie.Need-put-bytes-requires
-unfolding storedText
-put-bytes-requires c κs =
-    let s = c .before .before .before .before .before .before .before .before .before .before .before .before in
-    room-as (text-part (s .args .texts .now) (s .args .offset) (s .args .bytes)) (room-then (room-then (s .pre .1) (c .before .before .before .before .before .before .before .before .put-field .ensures)) (c .before .before .before .before .put-byte .ensures))
-
 pub put-text-spec : {M : Type 1} → statement M
+unfolding storedText
 put-text-spec =
     tie.close
     (tie.spec
     (λ c. search needs)  -- add-end
-    put-field-requires  -- put-field-requires
-    put-byte-requires  -- put-byte-requires
+    (λ c κs. (search needs, room-first _ (c .before .before .before .pre .1)))  -- put-field-requires
+    (λ c κs. room-first _ (c .before .before .before .before .before .before .before .pre .1 ⟫ c .before .before .before .put-field .ensures))  -- put-byte-requires
     (λ c. search needs)  -- sub-put-bytes
     (λ c. search needs)  -- part-put-bytes-start
     (λ c. search needs)  -- part-put-bytes-end

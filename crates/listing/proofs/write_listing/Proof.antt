@@ -1,5 +1,5 @@
 use native.Mathlib.Omega.{arith}
-use Rattle.listing.specs.Writes.{_▸_, by, kept, room-first, room-then}
+use Rattle.listing.specs.Writes.{_▸_, by, kept, room-first, _⟫_}
 use Rattle.listing.proofs.Whole.{Ready, ready}
 use Rattle.listing.proofs.put_head.Reads as put-head-reads
 use Rattle.listing.proofs.put_lines.Reads as put-lines-reads
@@ -26,7 +26,7 @@ write-listing-spec =
     tie.close
     (tie.spec
     (λ c κs. room-first _ (entered (c .before) .room))  -- put-head-requires
-    (λ c κs. let e = entered (c .before .before .before .before .before) in (e .each, room-then (e .room) (c .before .before .before .put-head .ensures)))  -- put-lines-requires
+    (λ c κs. let e = entered (c .before .before .before .before .before) in (e .each, e .room ⟫ c .before .before .before .put-head .ensures))  -- put-lines-requires
     (λ c. kept (returns c))  -- same-length
     returns  -- returns
     )
