@@ -8,7 +8,7 @@ use Rattle.items.specs.Records.{bytes}
 use Rattle.listing.specs.Listing.{digits, decimal, described, recordLines, headLine, listing}
 
 -- the items of `[1]`
-abbrev oneItems : List Item
+abbrev pub oneItems : List Item
 oneItems =
     text (ascii "[") ∷ mark 0 ∷ ifTest (lines 0) ∷ block ∷ newline ∷ run 0 ∷ group ∷ group ∷ text (ascii "1") ∷ ifTest (lines 0) ∷ text (ascii ",")
     ∷ endIf ∷ ifTest (lines 0) ∷ newline ∷ elseItem ∷ spaceOrNewline ∷ endIf ∷ groupEnd ∷ groupEnd ∷ runEnd 0 ∷ blockEnd ∷ elseItem ∷ text (ascii " ")

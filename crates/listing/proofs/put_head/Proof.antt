@@ -7,11 +7,20 @@ use Rattle.listing.proofs.put_head.Tie as tie
 
 put-field-requires-4 : tie.Need-put-field-requires-4
 unfolding headLine names nameAt
-put-field-requires-4 c κs = (search needs, room-first _ (c .before .before .before .before .before .before .before .before .before .before .before .before .before .before .pre ⟫ c .before .before .before .before .before .before .before .before .before .before .before .put-field .ensures ⟫ c .before .before .before .before .before .before .before .put-field2 .ensures ⟫ c .before .before .before .put-field3 .ensures))
+put-field-requires-4 c κs =
+    let c3 = c .before .before .before in
+    let c2 = c3 .before .before .before .before in
+    let c1 = c2 .before .before .before .before in
+    (search needs, room-first _ (c1 .before .before .before .pre ⟫ c1 .put-field .ensures ⟫ c2 .put-field2 .ensures ⟫ c3 .put-field3 .ensures))
 
 put-byte-requires : tie.Need-put-byte-requires
 unfolding headLine names nameAt
-put-byte-requires c κs = c .before .before .before .before .before .before .before .before .before .before .before .before .before .before .before .before .before .before .pre ⟫ c .before .before .before .before .before .before .before .before .before .before .before .before .before .before .before .put-field .ensures ⟫ c .before .before .before .before .before .before .before .before .before .before .before .put-field2 .ensures ⟫ c .before .before .before .before .before .before .before .put-field3 .ensures ⟫ c .before .before .before .put-field4 .ensures
+put-byte-requires c κs =
+    let c4 = c .before .before .before in
+    let c3 = c4 .before .before .before .before in
+    let c2 = c3 .before .before .before .before in
+    let c1 = c2 .before .before .before .before in
+    c1 .before .before .before .pre ⟫ c1 .put-field .ensures ⟫ c2 .put-field2 .ensures ⟫ c3 .put-field3 .ensures ⟫ c4 .put-field4 .ensures
 
 returns : tie.Need-returns
 unfolding headLine names nameAt

@@ -7,12 +7,18 @@ use Rattle.listing.proofs.put_line.Tie as tie
 put-item-requires : tie.Need-put-item-requires
 unfolding lineAt
 put-item-requires c κs =
-    let s = c .before .before .before .before .before .before .before .before .before .before .before .before .before .before .before in
-    (s .pre .0 .known, room-first _ (s .pre .1 ⟫ c .before .before .before .before .before .before .before .before .before .before .put-decimal .ensures ⟫ c .before .before .before .before .before .before .put-byte .ensures))
+    let c2 = c .before .before .before .before .before .before in
+    let c1 = c2 .before .before .before .before in
+    let s = c1 .before .before .before .before .before in
+    (s .pre .0 .known, room-first _ (s .pre .1 ⟫ c1 .put-decimal .ensures ⟫ c2 .put-byte .ensures))
 
 put-byte-requires-2 : tie.Need-put-byte-requires-2
 unfolding lineAt
-put-byte-requires-2 c κs = c .before .before .before .before .before .before .before .before .before .before .before .before .before .before .before .before .before .before .before .pre .1 ⟫ c .before .before .before .before .before .before .before .before .before .before .before .before .before .before .put-decimal .ensures ⟫ c .before .before .before .before .before .before .before .before .before .before .put-byte .ensures ⟫ c .before .before .before .put-item .ensures
+put-byte-requires-2 c κs =
+    let c3 = c .before .before .before in
+    let c2 = c3 .before .before .before .before .before .before .before in
+    let c1 = c2 .before .before .before .before in
+    c1 .before .before .before .before .before .pre .1 ⟫ c1 .put-decimal .ensures ⟫ c2 .put-byte .ensures ⟫ c3 .put-item .ensures
 
 returns : tie.Need-returns
 unfolding lineAt

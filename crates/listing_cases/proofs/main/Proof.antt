@@ -1,0 +1,26 @@
+use borrow.Author.Needs.{needs}
+use mathlib.Core.Path.{refl}
+use Rattle.text.specs.Basic.{sum}
+use Rattle.items.specs.Records.{bytes, decoded, itemOf}
+use Rattle.listing.specs.Told.{told}
+use Rattle.listing.specs.Examples.{oneItems}
+use Rattle.listing_cases.specs.Cases.{everyItems}
+use Rattle.listing_cases.proofs.main.Statement.{statement}
+use Rattle.listing_cases.proofs.main.Tie as tie
+
+pub main-spec : {M : Type 1} → statement M
+unfolding bytes decoded itemOf sum
+main-spec =
+    tie.close
+    (tie.spec
+    (λ c. search needs)  -- slice-aggregate-print-listing
+    (λ c. search needs)  -- slice-aggregate-print-listing-2
+    (λ c κs. told _ _ _ oneItems refl refl)  -- print-listing-requires
+    (λ c. search needs)  -- slice-aggregate-print-listing-3
+    (λ c. search needs)  -- slice-aggregate-print-listing-4
+    (λ c κs. told _ _ _ everyItems refl refl)  -- print-listing-requires-2
+    (λ c. search needs)  -- slice-aggregate-print-beginning
+    (λ c. search needs)  -- slice-aggregate-print-beginning-2
+    (λ c κs. told _ _ _ oneItems refl refl)  -- print-beginning-requires
+    (λ c. search needs)  -- returns
+    )

@@ -1,0 +1,2 @@
+-- What the program is run on.
+pub mod Cases
