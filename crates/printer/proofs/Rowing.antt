@@ -15,6 +15,7 @@ use Rattle.text.proofs.Table.{tabled-at}
 use Rattle.items.specs.Item.{Print, _⨟_, none, lit, when, say, newline}
 use Rattle.items.specs.Machine.{Held, Prints}
 use Rattle.items.specs.Laws.{_▸_, by, idle}
+use Rattle.tree.specs.Accepted.{or-false}
 use Rattle.tree.specs.Tree.{Part}
 use Rattle.tree.specs.declared.class.Class.{Class}
 use Rattle.tree.specs.declared.class.Kinds.{Kinds}
@@ -104,10 +105,6 @@ pub piece-part : (pr : ℕ → Print) (ps : List Part) (x : Entry) → settled x
 unfolding what whatOf wordOrNone partFor
 piece-part pr ps x t h g = go (eqb (x .what) 4) refl (eqb (x .word) 0) refl t (or-false (eqb (x .what) 5) (eqb (x .what) 6) g)
   where
-    or-false : (a b : Bool) → (a || b) ≡ false → (a ≡ false) × (b ≡ false)
-    or-false true b h = absurd (false≢true (sym h))
-    or-false false b h = (refl, h)
-
     left : (a : Bool) → (a || false) ≡ true → a ≡ true
     left true h = refl
     left false h = h

@@ -28,13 +28,10 @@ use Rattle.children.specs.Spans.{Spans, spanned, gapAt}
 use Rattle.children.specs.Uses.{span-child, span-reached, lead-reached}
 use Rattle.printer.specs.Print.{children, localOf}
 use Rattle.printer.specs.Under.{Kid, kid-of}
-use Rattle.printer.specs.Walked.{around, walked, walkedAfter, walk-after, through-lead, walk-lead, lead-none}
+use Rattle.printer.specs.Walked.{foreign-read, around, walked, walkedAfter, walk-after, through-lead, walk-lead, lead-none}
 use Rattle.printer.specs.Reads.{Within, Whole, readAt, kidsIn, Walks, behind-kid}
 
 -- ---- the one bind of a local
-
-foreign-read : {A : Type 0} {n : ℕ} {cs : List Child} {e : Ending} → foreign n ≡ read cs e → A
-foreign-read h = absurd (let z : _≡_ {A = ℕ} 0 1 = cc in omega arith)
 
 -- the reading from a child on has one child at least
 some-kids : (c : Child) (gs : Gaps) (ds : List Child) (e : Ending) → readFrom c gs ≡ read ds e → 1 ≤ length ds

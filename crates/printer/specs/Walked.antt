@@ -46,7 +46,7 @@ unstopped (G.Gaps.child g x gs) = unstopped gs
 
 -- ---- what a reading is, from a child on
 
-foreign-read : {A : Type 0} {n : ℕ} {cs : List Child} {e : Ending} → foreign n ≡ read cs e → A
+pub foreign-read : {A : Type 0} {n : ℕ} {cs : List Child} {e : Ending} → foreign n ≡ read cs e → A
 foreign-read h = let z : _≡_ {A = ℕ} 0 1 = cc in absurd (omega arith)
 
 -- What stands behind the child c in a reading.
