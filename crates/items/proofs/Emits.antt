@@ -27,6 +27,7 @@ use Rattle.items.specs.Role.{role, isRun}
 use Rattle.items.specs.Records.{recordOf, bytesOf}
 use Rattle.items.specs.Signal.{signalItem, conditionTest}
 use Rattle.items.specs.Machine.{State, store, storeRecord, counted, printable, emitted, emitAll, onward, reaching, finish, run, seen, held, Prints, nextRun}
+use Rattle.items.specs.Lengths.{line-length}
 use Rattle.items.specs.Laws.{Ended, stops, fills}
 use Rattle.items.specs.Entry.{entryOf, plainEntry, advanced, continued, Emitted}
 use Rattle.items.proofs.Printed.{the-type}
@@ -74,7 +75,7 @@ record Shows (q : Print) (x : Item) (e : Entry) (ts ts′ : List ℕ) (c : Count
 module _ (q : Print) (x : Item) (e : Entry) (rs ts rs′ ts′ : List ℕ) where
   advancing : (c : Count) (r : Printed) → Shows q x e ts ts′ c → Emitted e rs (Done c) rs′ r → seen rs′ ts′ r ≡ run q (seen rs ts (Done c))
   unfolding run seen finish emitAll continued advanced
-  advancing c r s m = rw (s .prints) (go (printable c x) (rw (s .entry) at (m .counts)))
+  advancing c r s m = rw (s .prints) (go (printable c x) (rw (s .entry, line-length (c .records) (c .texts) x) at (m .counts)))
     where
       σ : State
       σ = record { records = rs; texts = ts; count = c }

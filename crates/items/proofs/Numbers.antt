@@ -11,9 +11,10 @@ use Rattle.items.specs.declared.Count.{Count}
 use Rattle.items.specs.declared.Entry.{Entry}
 use Rattle.items.specs.declared.Printed.{Printed}
 use Rattle.items.specs.declared.Printed.the-variants.{Done, Full}
+use Rattle.items.specs.Names.{lineLength}
 use Rattle.items.specs.Machine.{fit, grown}
 use Rattle.items.specs.Fitting.{fit-true}
-use Rattle.items.specs.Entry.{advanced}
+use Rattle.items.specs.Entry.{grownBy, advanced}
 
 -- the largest of n and the numbers after it
 abbrev most : ℕ → List ℕ → ℕ
@@ -33,21 +34,50 @@ misfits n (m ∷ ms) h = go (ltb n (2 ^ 32)) refl (misfits m ms)
     go true e f = f (omega (arith, ltb-true n (2 ^ 32) e))
     go false e f = refl
 
+-- a length or an operand that does not fit is met among the numbers that must fit
+over : (l f s r t n : ℕ) → 2 ^ 32 ≤ max l (max f s) → l ≤ t → 2 ^ 32 ≤ max f (max s (max r (max t n)))
+over l f s r t n h k = omega arith
+
+under : (l f s n : ℕ) → max l (max f s) < 2 ^ 32 → n < 2 ^ 32 → max f (max s n) < 2 ^ 32
+under l f s n h k = omega arith
+
+beyond : (f s n : ℕ) → 2 ^ 32 ≤ n → 2 ^ 32 ≤ max f (max s n)
+beyond f s n h = omega arith
+
 module _ (e : Entry) (c : Count) where
+  abbrev line : ℕ
+  line = lineLength (c .records) (e .kind) (e .first) (e .second)
+
   -- the numbers after the first operand that must fit
   abbrev others : List ℕ
-  others = e .second ∷ (c .records + 1) ∷ (c .texts + e .bytes) ∷ (c .runs + e .runs) ∷ (c .marks + e .marks) ∷ []
+  others = e .second ∷ (c .records + 1) ∷ (c .texts + e .bytes) ∷ (c .runs + e .runs) ∷ (c .marks + e .marks) ∷ (c .lines + line) ∷ []
 
-  pub advance-done : (m : ℕ) → m ≡ most (e .first) others → m < 2 ^ 32 → Done (grown c (e .bytes) (e .runs) (e .marks)) ≡ advanced e c
+  -- the largest of what an entry brings, and of the counts after it
+  abbrev brought : ℕ
+  brought = max (e .bytes) (max (e .first) (e .second))
+
+  abbrev counts : ℕ
+  counts = max (c .records + 1) (max (c .texts + e .bytes) (max (c .runs + e .runs) (max (c .marks + e .marks) (c .lines + line))))
+
+  -- the counts compared one after another, from the last on
+  pub counts-are :
+      {l k m r n : ℕ} → l ≡ line → k ≡ max (c .marks + e .marks) (c .lines + l) → m ≡ max (c .runs + e .runs) k → r ≡ max (c .texts + e .bytes) m → n ≡ max (c .records + 1) r
+      → n ≡ counts
+  counts-are o h i j k = rw (k, j, i, h, o)
+
+  advance-full : 2 ^ 32 ≤ most (e .first) others → Full ≡ advanced e c
   unfolding advanced
-  advance-done m q h = rw (fit-true (below (e .first) others (rw q at h)))
+  advance-full h = rw (misfits (e .first) others h)
 
-  pub advance-full : (m : ℕ) → m ≡ most (e .first) others → 2 ^ 32 ≤ m → Full ≡ advanced e c
+  pub brought-full : {m : ℕ} → m ≡ brought → 2 ^ 32 ≤ m → Full ≡ advanced e c
+  brought-full q h = advance-full (over (e .bytes) (e .first) (e .second) _ (c .texts + e .bytes) _ (rw q at h) (omega arith))
+
+  pub counts-full : {m : ℕ} → m ≡ counts → 2 ^ 32 ≤ m → Full ≡ advanced e c
+  counts-full q h = advance-full (beyond (e .first) (e .second) counts (rw q at h))
+
+  pub advance-done : {l m n : ℕ} → l ≡ line → m ≡ brought → m < 2 ^ 32 → n ≡ counts → n < 2 ^ 32 → Done (grown c (e .bytes) (e .runs) (e .marks) l) ≡ advanced e c
   unfolding advanced
-  advance-full m q h = rw (misfits (e .first) others (rw q at h))
-
-  pub advance-long : 2 ^ 32 ≤ e .bytes → Full ≡ advanced e c
-  advance-long h = advance-full (most (e .first) others) refl (omega arith)
+  advance-done o p g q h = rw (o, fit-true (below (e .first) others (under (e .bytes) (e .first) (e .second) counts (rw p at g) (rw q at h))))
 
   -- where the counts went on, the operands fit
   module _ (r : Printed) (d : Count) (went : r ≡ Done d) (is : r ≡ advanced e c) where
@@ -55,7 +85,7 @@ module _ (e : Entry) (c : Count) where
     unfolding advanced fit all
     operands = go (fit (e .first ∷ others)) refl is
       where
-        go : (t : Bool) → fit (e .first ∷ others) ≡ t → r ≡ cond t (Done (grown c (e .bytes) (e .runs) (e .marks))) Full → (e .first < 2 ^ 32) × (e .second < 2 ^ 32)
+        go : (t : Bool) → fit (e .first ∷ others) ≡ t → r ≡ cond t (Done (grownBy e c)) Full → (e .first < 2 ^ 32) × (e .second < 2 ^ 32)
         go true p q =
             let (a, s) = and-true _ _ p in
             (ltb-true (e .first) (2 ^ 32) a, ltb-true (e .second) (2 ^ 32) (and-true _ _ s .0))

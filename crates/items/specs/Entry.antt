@@ -10,6 +10,7 @@ use Rattle.items.specs.declared.Printed.{Printed}
 use Rattle.items.specs.declared.Printed.the-variants.{Done, Stopped, Full}
 use Rattle.items.specs.Item.{Item}
 use Rattle.items.specs.Role.{role, isRun, isMark}
+use Rattle.items.specs.Names.{lineLength}
 use Rattle.items.specs.Records.{recordOf, bytesOf}
 use Rattle.items.specs.Machine.{storeRecord, grown, countable}
 
@@ -23,10 +24,14 @@ entryOf at x =
 abbrev pub plainEntry : ℕ → ℕ → ℕ → Entry
 plainEntry kind first second = record { kind = kind; first = first; second = second; bytes = 0; runs = 0; marks = 0 }
 
+-- the counts after an entry
+abbrev pub grownBy : Entry → Count → Count
+grownBy e c = grown c (e .bytes) (e .runs) (e .marks) (lineLength (c .records) (e .kind) (e .first) (e .second))
+
 -- printing goes on by an entry, or is full
 unfoldable pub advanced : Entry → Count → Printed
 advanced e c =
-    let d = grown c (e .bytes) (e .runs) (e .marks) in
+    let d = grownBy e c in
     cond (countable (e .first) (e .second) d) (Done d) Full
 
 -- printing goes on only where it has neither stopped nor become full

@@ -6,6 +6,7 @@ use mathlib.Core.List.{List, [], _∷_, _++_}
 use Prim.Native.Nat.{ℕ, suc, _+_, _*_, _≤_, _<_, _^_}
 use native.Mathlib.Omega.{arith}
 use native.Mathlib.Nat.{add-zero, zero-add}
+use native.Mathlib.Numerals.{add-one}
 use lib.ListN.{length, set, length-append}
 use lib.Seq.{sets-eq}
 use borrow.Author.Tests.{lt-ltb}
@@ -15,6 +16,7 @@ use Rattle.items.specs.declared.Printed.the-variants.{Done}
 use Rattle.items.specs.Item.{always, lines, Item, text, newline, spaceOrNewline, tab, indent, outdent, mark, group, groupEnd, block, blockEnd, runEnd, again, ifTest, elseItem, endIf, Out, stop, ok, Print, itemsOf}
 use Rattle.items.specs.Item.{run as opening}
 use Rattle.items.specs.Role.{role, isRun, isMark, runsOf, marksOf}
+use Rattle.items.specs.Lines.{recordLine, recordLines}
 use Rattle.items.specs.Records.{recordOf, bytesOf, words, bytes, Counts, countsOf, overlaid, words-length}
 use Rattle.items.specs.Machine.{State, store, counted, fit, printable, emitted, emitAll, onward, Outcome, halted, reached, halting, reaching, finish, run, seen, Held, held, outcome, Prints, noCounts, starting}
 
@@ -29,7 +31,7 @@ store-append (u ∷ us) vs buffer at =
     rw n (store-append us vs (set buffer at u) (suc at))
 
 -- what is stored from the start of a buffer with room lies over it
-store-overlaid : (vs buffer : List ℕ) → length vs ≤ length buffer → store buffer 0 vs ≡ overlaid vs buffer
+pub store-overlaid : (vs buffer : List ℕ) → length vs ≤ length buffer → store buffer 0 vs ≡ overlaid vs buffer
 unfolding store
 store-overlaid vs buffer h = rw (zero-add (length vs)) at (sets-eq vs buffer 0 (rw (zero-add (length vs)) h))
 
@@ -48,7 +50,7 @@ allEmitted xs σ =
     record {
       records = store (σ .records) (3 * c .records) (words (c .texts) xs);
       texts = store (σ .texts) (c .texts) (bytes xs);
-      count = record { records = c .records + length xs; texts = c .texts + length (bytes xs); runs = c .runs + runsOf xs; marks = c .marks + marksOf xs };
+      count = record { records = c .records + length xs; texts = c .texts + length (bytes xs); runs = c .runs + runsOf xs; marks = c .marks + marksOf xs; lines = c .lines + length (recordLines (c .records) xs) };
     }
 
 -- the numbers of all items fit, from these counts on
@@ -57,11 +59,11 @@ allFit [] c = true
 allFit (x ∷ xs) c = printable c x && allFit xs (counted c x)
 
 allEmitted-nil : (σ : State) → σ ≡ allEmitted [] σ
-unfolding store words bytes sum
-allEmitted-nil σ = rw (add-zero (σ .count .records), add-zero (σ .count .texts), add-zero (σ .count .runs), add-zero (σ .count .marks))
+unfolding store words bytes sum recordLines
+allEmitted-nil σ = rw (add-zero (σ .count .records), add-zero (σ .count .texts), add-zero (σ .count .runs), add-zero (σ .count .marks), add-zero (σ .count .lines))
 
 allEmitted-cons : (x : Item) (xs : List Item) (σ : State) → allEmitted xs (emitted x σ) ≡ allEmitted (x ∷ xs) σ
-unfolding words bytes sum
+unfolding words bytes sum recordLines
 allEmitted-cons x xs σ =
     let c = σ .count in
     let r = recordOf (c .texts) x in
@@ -70,7 +72,10 @@ allEmitted-cons x xs σ =
     let e₂ : c .texts + length (bytesOf x) + length (bytes xs) ≡ c .texts + length (bytesOf x ++ bytes xs) = rw (length-append (bytesOf x) (bytes xs)) (omega arith) in
     let e₃ : c .runs + isRun (role x) + runsOf xs ≡ c .runs + (isRun (role x) + runsOf xs) = omega arith in
     let e₄ : c .marks + isMark (role x) + marksOf xs ≡ c .marks + (isMark (role x) + marksOf xs) = omega arith in
-    rw (e₀, store-append (r .kind ∷ r .first ∷ r .second ∷ []) (words (c .texts + length (bytesOf x)) xs) (σ .records) (3 * c .records), store-append (bytesOf x) (bytes xs) (σ .texts) (c .texts), e₁, e₂, e₃, e₄)
+    let e₅ : c .lines + length (recordLine (c .records) x) + length (recordLines (suc (c .records)) xs) ≡ c .lines + length (recordLine (c .records) x ++ recordLines (suc (c .records)) xs) =
+        rw (length-append (recordLine (c .records) x) (recordLines (suc (c .records)) xs)) (omega arith) in
+    let e₆ : c .records + 1 ≡ suc (c .records) = omega arith in
+    rw (e₀, store-append (r .kind ∷ r .first ∷ r .second ∷ []) (words (c .texts + length (bytesOf x)) xs) (σ .records) (3 * c .records), store-append (bytesOf x) (bytes xs) (σ .texts) (c .texts), e₁, e₂, e₃, e₄, e₆, e₅)
 
 all-emitted : (xs : List Item) (σ : State) → emitAll xs σ ≡ cond (allFit xs (σ .count)) (some (allEmitted xs σ)) none
 unfolding emitAll allFit
@@ -89,13 +94,14 @@ all-emitted (x ∷ xs) σ = step (printable (σ .count) x) (rw (allEmitted-cons 
 abbrev pub Short : Item → Type 0
 Short x = (recordOf 0 x .first < 2 ^ 32) × (recordOf 0 x .second < 2 ^ 32)
 
--- The items can all be printed: the numbers that they name and the four counts are u32s.
+-- The items can all be printed: the numbers that they name and their counts are u32s.
 pub record Fits (xs : List Item) : Type 0 where
   pub operands : All Short xs
   pub records : length xs < 2 ^ 32
   pub texts : length (bytes xs) < 2 ^ 32
   pub runs : runsOf xs < 2 ^ 32
   pub marks : marksOf xs < 2 ^ 32
+  pub lines : length (recordLines 0 xs) < 2 ^ 32
 
 pub fit-true : {ns : List ℕ} → All (λ n. n < 2 ^ 32) ns → fit ns ≡ true
 unfolding fit all
@@ -125,14 +131,15 @@ short-at at endIf h k = k
 
 all-fit :
     (xs : List Item) (c : Counts) → All Short xs → c .records + length xs < 2 ^ 32 → c .texts + length (bytes xs) < 2 ^ 32
-    → c .runs + runsOf xs < 2 ^ 32 → c .marks + marksOf xs < 2 ^ 32 → allFit xs c ≡ true
-unfolding allFit bytes sum
-all-fit [] c ∅ h₁ h₂ h₃ h₄ = refl
-all-fit (x ∷ xs) c (k ▹ p) h₁ h₂ h₃ h₄ =
+    → c .runs + runsOf xs < 2 ^ 32 → c .marks + marksOf xs < 2 ^ 32 → c .lines + length (recordLines (c .records) xs) < 2 ^ 32 → allFit xs c ≡ true
+unfolding allFit bytes sum recordLines
+all-fit [] c ∅ h₁ h₂ h₃ h₄ h₅ = refl
+all-fit (x ∷ xs) c (k ▹ p) h₁ h₂ h₃ h₄ h₅ =
     let e = length-append (bytesOf x) (bytes xs) in
+    let l = length-append (recordLine (c .records) x) (recordLines (suc (c .records)) xs) in
     let s = short-at (c .texts) x (omega arith) k in
-    let f : printable c x ≡ true = fit-true (s .0 ▹ s .1 ▹ omega arith ▹ omega arith ▹ omega arith ▹ omega arith ▹ ∅) in
-    rw f (all-fit xs (counted c x) p (omega arith) (omega arith) (omega arith) (omega arith))
+    let f : printable c x ≡ true = fit-true (s .0 ▹ s .1 ▹ omega arith ▹ omega arith ▹ omega arith ▹ omega arith ▹ omega arith ▹ ∅) in
+    rw f (all-fit xs (counted c x) p (omega arith) (omega arith) (omega arith) (omega arith) (rw (add-one (c .records)) (omega arith)))
 
 -- ---- whole printings, from the start
 
@@ -157,7 +164,7 @@ run-start p rs ts = go (p 0)
     σ = record { records = rs; texts = ts; count = noCounts }
 
     items : (xs : List Item) → emitAll xs σ ≡ begun rs ts xs
-    items xs = rw (zero-add (length xs), zero-add (length (bytes xs)), zero-add (runsOf xs), zero-add (marksOf xs)) at (all-emitted xs σ)
+    items xs = rw (zero-add (length xs), zero-add (length (bytes xs)), zero-add (runsOf xs), zero-add (marksOf xs), zero-add (length (recordLines 0 xs))) at (all-emitted xs σ)
 
     go : (o : Out) → finish σ o ≡ outcomeOf rs ts o
     go (stop xs e) = ap (halting e) (items xs)
@@ -166,7 +173,7 @@ run-start p rs ts = go (p 0)
 fits-start : (xs : List Item) → Fits xs → allFit xs noCounts ≡ true
 fits-start xs f =
     all-fit xs noCounts (f .operands) (rw (zero-add (length xs)) (f .records)) (rw (zero-add (length (bytes xs))) (f .texts))
-    (rw (zero-add (runsOf xs)) (f .runs)) (rw (zero-add (marksOf xs)) (f .marks))
+    (rw (zero-add (runsOf xs)) (f .runs)) (rw (zero-add (marksOf xs)) (f .marks)) (rw (zero-add (length (recordLines 0 xs))) (f .lines))
 
 -- a printing whose items fit comes to its end, with the records and texts in buffers of any size, as far as there is room
 pub run-fitting : (p : Print) (xs : List Item) (k : ℕ) (rs ts : List ℕ) → p 0 ≡ ok xs k → Fits xs → run p (starting rs ts) ≡ reached (written rs ts xs) k

@@ -1,4 +1,4 @@
--- The effect of items on the lent buffers and the four counts, and the contract of every printer.
+-- The effect of items on the lent buffers and the counts, and the contract of every printer.
 use mathlib.Core.Path.{_≡_}
 use mathlib.Core.Bool.{Bool, cond}
 use mathlib.Core.Option.{Option, none, some}
@@ -12,9 +12,10 @@ use Rattle.items.specs.declared.Printed.{Printed}
 use Rattle.items.specs.declared.Printed.the-variants.{Done, Stopped, Full}
 use Rattle.items.specs.Item.{Item, Out, stop, ok, Print}
 use Rattle.items.specs.Role.{role, isRun, isMark}
+use Rattle.items.specs.Lines.{recordLine}
 use Rattle.items.specs.Records.{recordOf, bytesOf, Counts}
 
--- The lent buffers, and the four counts of what was printed.
+-- The lent buffers, and the counts of what was printed.
 pub record State : Type 0 where
   pub records : List ℕ
   pub texts : List ℕ
@@ -28,13 +29,14 @@ store buffer at vs = sets buffer at vs
 abbrev pub storeRecord : List ℕ → ℕ → ℕ → ℕ → ℕ → List ℕ
 storeRecord buffer n kind first second = store buffer (3 * n) (kind ∷ first ∷ second ∷ [])
 
--- the counts after one record more, with so many text bytes, runs and marks
-abbrev pub grown : Counts → ℕ → ℕ → ℕ → Counts
-grown c bytes runs marks = record { records = c .records + 1; texts = c .texts + bytes; runs = c .runs + runs; marks = c .marks + marks }
+-- the counts after one record more, with so many text bytes, runs, marks and bytes of its line
+abbrev pub grown : Counts → ℕ → ℕ → ℕ → ℕ → Counts
+grown c bytes runs marks line =
+    record { records = c .records + 1; texts = c .texts + bytes; runs = c .runs + runs; marks = c .marks + marks; lines = c .lines + line }
 
 -- the counts after an item
 abbrev pub counted : Counts → Item → Counts
-counted c x = grown c (length (bytesOf x)) (isRun (role x)) (isMark (role x))
+counted c x = grown c (length (bytesOf x)) (isRun (role x)) (isMark (role x)) (length (recordLine (c .records) x))
 
 -- each of the numbers is a u32
 unfoldable pub fit : List ℕ → Bool
@@ -42,7 +44,7 @@ fit ns = all (λ n. ltb n (2 ^ 32)) ns
 
 -- the two operands of a record and the counts after it are u32s
 abbrev pub countable : ℕ → ℕ → Counts → Bool
-countable first second c = fit (first ∷ second ∷ c .records ∷ c .texts ∷ c .runs ∷ c .marks ∷ [])
+countable first second c = fit (first ∷ second ∷ c .records ∷ c .texts ∷ c .runs ∷ c .marks ∷ c .lines ∷ [])
 
 -- an item can be printed after these counts
 abbrev pub printable : Counts → Item → Bool
@@ -134,7 +136,7 @@ nextRun Full = 0
 
 -- no counts yet
 abbrev pub noCounts : Counts
-noCounts = record { records = 0; texts = 0; runs = 0; marks = 0 }
+noCounts = record { records = 0; texts = 0; runs = 0; marks = 0; lines = 0 }
 
 -- before the first item
 abbrev pub starting : List ℕ → List ℕ → Outcome

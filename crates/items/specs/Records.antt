@@ -1,4 +1,4 @@
--- The record form of items, the four counts, and the way back.
+-- The record form of items, the counts, and the way back.
 use mathlib.Core.Path.{_≡_, refl}
 use mathlib.Core.Bool.{cond, _&&_}
 use mathlib.Core.Option.{Option, none, some}
@@ -12,6 +12,7 @@ use borrow.Author.Tests.{le-leb}
 use Rattle.items.specs.declared.Count.{Count}
 use Rattle.items.specs.Item.{always, lines, Item, text, newline, spaceOrNewline, tab, indent, outdent, mark, group, groupEnd, block, blockEnd, run, runEnd, again, ifTest, elseItem, endIf}
 use Rattle.items.specs.Role.{runsOf, marksOf}
+use Rattle.items.specs.Lines.{recordLines}
 
 -- 'Three u32 each: kind and two operands'
 pub record Record : Type 0 where
@@ -74,13 +75,13 @@ unfoldable pub bytes : List Item → List ℕ
 bytes [] = []
 bytes (x ∷ xs) = bytesOf x ++ bytes xs
 
--- 'all of them, the bytes of their texts, the `run`s, the `mark`s'
+-- 'all of them, the bytes of their texts, the `run`s, the `mark`s'; and the bytes of the lines that list them
 abbrev pub Counts : Type 0
 Counts = Count
 
--- the four counts of a list of items
+-- the counts of a list of items
 abbrev pub countsOf : List Item → Counts
-countsOf xs = record { records = length xs; texts = length (bytes xs); runs = runsOf xs; marks = marksOf xs }
+countsOf xs = record { records = length xs; texts = length (bytes xs); runs = runsOf xs; marks = marksOf xs; lines = length (recordLines 0 xs) }
 
 -- a lent buffer after a call that writes xs: it begins with xs and goes on as it was
 abbrev pub overlaid : List ℕ → List ℕ → List ℕ

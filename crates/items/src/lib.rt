@@ -1,4 +1,6 @@
 // Print items, written as records into lent buffers.
+pub mod lines;
+
 ghost use mathlib.Core.Path.{_≡_};
 ghost use mathlib.Core.List.{List};
 ghost use Prim.Native.Nat.{ℕ, max};
@@ -19,12 +21,13 @@ pub struct Run(pub u32);
 // The number of an element of the tree.
 pub struct Element(pub usize);
 
-// What was printed so far: records, bytes of their texts, runs and marks.
+// What was printed so far: records, bytes of their texts, runs and marks, and bytes of the lines that list the records.
 pub struct Count {
     pub records: u32,
     pub texts: u32,
     pub runs: u32,
     pub marks: u32,
+    pub lines: u32,
 }
 
 // How far printing has come. It is full where a count or an operand would no longer fit 32 bits.
@@ -173,15 +176,16 @@ fn larger(a: u64, b: u64) -> u64
 fn advance(e: Entry, c: Count) -> Printed
     ensures { λ r. ⌜ r ≡ advanced e c ⌝ }
 {
-    if LIMIT <= e.bytes {
+    if LIMIT <= larger(e.bytes, larger(e.first, e.second)) {
         return Printed::Full;
     }
     let records = c.records as u64 + 1;
     let texts = c.texts as u64 + e.bytes;
     let runs = c.runs as u64 + e.runs as u64;
     let marks = c.marks as u64 + e.marks as u64;
-    let counts = larger(records, larger(texts, larger(runs, marks)));
-    if LIMIT <= larger(e.first, larger(e.second, counts)) {
+    let line = lines::line_length(c.records, e.kind, e.first as u32, e.second as u32);
+    let lines = c.lines as u64 + line;
+    if LIMIT <= larger(records, larger(texts, larger(runs, larger(marks, lines)))) {
         return Printed::Full;
     }
     Printed::Done(Count {
@@ -189,6 +193,7 @@ fn advance(e: Entry, c: Count) -> Printed
         texts: texts as u32,
         runs: runs as u32,
         marks: marks as u32,
+        lines: lines as u32,
     })
 }
 
@@ -216,6 +221,7 @@ pub fn start() -> Printed
         texts: 0,
         runs: 0,
         marks: 0,
+        lines: 0,
     })
 }
 

@@ -8,8 +8,9 @@ use lib.Dec.{eqb}
 use lib.ListN.{take, drop}
 use borrow.Author.Tests.{eq-eqb, ne-eqb}
 use Rattle.text.specs.Basic.{ascii}
-use Rattle.listing.specs.Listing.{field}
-use Rattle.listing.specs.Shown.{nameAt, numbered, storedText, shown}
+use Rattle.items.specs.Lines.{field}
+use Rattle.items.specs.Names.{nameAt, numbered}
+use Rattle.listing.specs.Shown.{storedText, shown}
 
 -- a text lies from its offset to its offset and length
 pub text-part : (ts : List ℕ) (a b : ℕ) → take b (drop a ts) ≡ take (a + b - a) (drop a ts)

@@ -12,11 +12,12 @@ use lib.Seq.{getD-drop, drop-drop}
 use borrow.Author.Tests.{eqb-true, eqb-false}
 use Rattle.items.specs.Item.{Item}
 use Rattle.items.specs.Records.{bytes, Counts, itemOf, cons, decoded}
-use Rattle.listing.specs.Listing.{recordLines, headLine, listing}
+use Rattle.items.specs.Lines.{recordLines}
+use Rattle.listing.specs.Listing.{headLine, listing}
 use Rattle.listing.specs.Writes.{Room}
 use Rattle.listing.specs.Shown.{Line, lineAt, linesFrom}
 use Rattle.listing.specs.Told.{itemsIn, Told}
-use Rattle.listing.proofs.Decimals.{decimal-short}
+use Rattle.listing.proofs.Head.{head-short}
 use Rattle.listing.proofs.Decoding.{Shows, item-shows}
 
 -- The three words of a record from place n on, and what stands behind them.
@@ -39,11 +40,10 @@ words-at rs ws n k a b e = record {
     at : (i : ℕ) → getD rs (n + i) 0 ≡ getD (k ∷ a ∷ b ∷ ws) i 0
     at i = sym (getD-drop n rs i 0) ∙ ap (λ (l : List ℕ). getD l i 0) e
 
--- From record i on, m records are those of the items xs, in lines of at most 64 bytes besides their texts.
+-- From record i on, m records are those of the items xs.
 record Lists (rs ts : List ℕ) (i m : ℕ) (xs : List Item) : Type 0 where
   lines : linesFrom rs ts i m ≡ recordLines i xs
   each : (j : ℕ) → i ≤ j → j < i + m → Line rs ts j
-  short : length (recordLines i xs) ≤ 64 * m + length (bytes xs)
 
 -- What is known where the listing of told records is to be written.
 pub record Ready (rs ts : List ℕ) (c : Counts) : Type 0 where
@@ -51,50 +51,45 @@ pub record Ready (rs ts : List ℕ) (c : Counts) : Type 0 where
   pub whole : listing (itemsIn rs ts (c .records)) ≡ headLine c ++ linesFrom rs ts 0 (c .records)
   pub room : Room (headLine c ++ linesFrom rs ts 0 (c .records)) 0
 
-head-short : (c : Counts) → c .records < 2 ^ 32 → c .texts < 2 ^ 32 → c .runs < 2 ^ 32 → c .marks < 2 ^ 32 → length (headLine c) ≤ 80
-unfolding headLine
-head-short c p q r s = simp length-append (omega (arith, decimal-short (c .records) p, decimal-short (c .texts) q, decimal-short (c .runs) r, decimal-short (c .marks) s))
-
-module _ (rs ts : List ℕ) (small : (i : ℕ) → getD rs i 0 < 2 ^ 32) where
-  one-more : (i m k a b : ℕ) (ws : List ℕ) (x : Item) (xs : List Item) → i < 2 ^ 32 → Words rs (3 * i) k a b ws → Shows ts k a b x → Lists rs ts (suc i) m xs → Lists rs ts i (suc m) (x ∷ xs)
-  unfolding lineAt linesFrom recordLines bytes
-  one-more i m k a b ws x xs h w s l = record {
+module _ (rs ts : List ℕ) where
+  one-more : (i m k a b : ℕ) (ws : List ℕ) (x : Item) (xs : List Item) → Words rs (3 * i) k a b ws → Shows ts k a b x → Lists rs ts (suc i) m xs → Lists rs ts i (suc m) (x ∷ xs)
+  unfolding lineAt linesFrom recordLines
+  one-more i m k a b ws x xs w s l = record {
     lines = rw (w .kind, w .first, w .second, s .shows, l .lines);
     each = λ j u v. go j u v (eqb j i) refl;
-    short = simp length-append (omega (arith, l .short, s .short, decimal-short i h));
   }
     where
       go : (j : ℕ) → i ≤ j → j < i + suc m → (t : Bool) → eqb j i ≡ t → Line rs ts j
       go j u v true e = rw (eqb-true j i e) (record { inside = w .inside; known = rw (w .kind, w .first, w .second) (s .readable) })
       go j u v false e = let d : j ≡ i → ⊥ = eqb-false j i e in l .each j (omega arith) (omega arith)
 
-  lists : (m i : ℕ) (ws : List ℕ) (xs : List Item) → drop (3 * i) rs ≡ ws → i + m ≤ 2 ^ 32 → decoded ws ts m ≡ some xs → Lists rs ts i m xs
-  unfolding decoded linesFrom recordLines bytes
-  lists zero i ws xs e h r = let n : [] ≡ xs = cc in rw (← n) (record { lines = refl; each = λ j u v. absurd (omega arith); short = omega arith })
-  lists (suc m) i [] xs e h r = absurd (let z : _≡_ {A = ℕ} 0 1 = cc in omega arith)
-  lists (suc m) i (k ∷ []) xs e h r = absurd (let z : _≡_ {A = ℕ} 0 1 = cc in omega arith)
-  lists (suc m) i (k ∷ a ∷ []) xs e h r = absurd (let z : _≡_ {A = ℕ} 0 1 = cc in omega arith)
-  lists (suc m) i (k ∷ a ∷ b ∷ ws) xs e h r = go (itemOf ts k a b) (decoded ws ts m) refl refl r (lists m (suc i) ws)
+  lists : (m i : ℕ) (ws : List ℕ) (xs : List Item) → drop (3 * i) rs ≡ ws → decoded ws ts m ≡ some xs → Lists rs ts i m xs
+  unfolding decoded linesFrom recordLines
+  lists zero i ws xs e r = let n : [] ≡ xs = cc in rw (← n) (record { lines = refl; each = λ j u v. absurd (omega arith) })
+  lists (suc m) i [] xs e r = absurd (let z : _≡_ {A = ℕ} 0 1 = cc in omega arith)
+  lists (suc m) i (k ∷ []) xs e r = absurd (let z : _≡_ {A = ℕ} 0 1 = cc in omega arith)
+  lists (suc m) i (k ∷ a ∷ []) xs e r = absurd (let z : _≡_ {A = ℕ} 0 1 = cc in omega arith)
+  lists (suc m) i (k ∷ a ∷ b ∷ ws) xs e r = go (itemOf ts k a b) (decoded ws ts m) refl refl r (lists m (suc i) ws)
     where
       go : (o : Option Item) (p : Option (List Item)) → itemOf ts k a b ≡ o → decoded ws ts m ≡ p → cons o p ≡ some xs
-          → ((ys : List Item) → drop (3 * suc i) rs ≡ ws → suc i + m ≤ 2 ^ 32 → decoded ws ts m ≡ some ys → Lists rs ts (suc i) m ys) → Lists rs ts i (suc m) xs
+          → ((ys : List Item) → drop (3 * suc i) rs ≡ ws → decoded ws ts m ≡ some ys → Lists rs ts (suc i) m ys) → Lists rs ts i (suc m) xs
       go none p f g r more = absurd (let z : _≡_ {A = ℕ} 0 1 = cc in omega arith)
       go (some x) none f g r more = absurd (let z : _≡_ {A = ℕ} 0 1 = cc in omega arith)
       go (some x) (some ys) f g r more =
           let n : x ∷ ys ≡ xs = cc in
           let w = words-at rs ws (3 * i) k a b e in
           let t : 3 * suc i ≡ 3 * i + 3 = omega arith in
-          let s = item-shows ts k a b x (rw (w .first) at (small (3 * i + 1))) (rw (w .second) at (small (3 * i + 2))) f in
-          rw (← n) (one-more i m k a b ws x ys (omega arith) w s (more ys (rw t (w .rest)) (omega arith) g))
+          let s = item-shows ts k a b x f in
+          rw (← n) (one-more i m k a b ws x ys w s (more ys (rw t (w .rest)) g))
 
-  pub ready : (c : Counts) → Told rs ts c → c .records < 2 ^ 32 → c .texts < 2 ^ 32 → c .runs < 2 ^ 32 → c .marks < 2 ^ 32 → Ready rs ts c
+  pub ready : (c : Counts) → Told rs ts c → c .records < 2 ^ 32 → c .texts < 2 ^ 32 → c .runs < 2 ^ 32 → c .marks < 2 ^ 32 → c .lines < 2 ^ 32 → Ready rs ts c
   unfolding listing
-  ready c t p q r s =
+  ready c t p q r s u =
       let xs = itemsIn rs ts (c .records) in
-      let l = lists (c .records) 0 rs xs refl (omega arith) (t .decodes) in
-      let n : c .texts ≡ length (bytes xs) = ap (λ (d : Counts). d .texts) (t .counts) in
+      let l = lists (c .records) 0 rs xs refl (t .decodes) in
+      let n : c .lines ≡ length (recordLines 0 xs) = ap (λ (d : Counts). d .lines) (t .counts) in
       record {
         each = λ i h. l .each i (omega arith) (omega arith);
         whole = rw (l .lines, ← (t .counts));
-        room = record { fits = rw (length-append (headLine c) (linesFrom rs ts 0 (c .records)), l .lines) (omega (arith, head-short c p q r s, l .short)) };
+        room = record { fits = rw (length-append (headLine c) (linesFrom rs ts 0 (c .records)), l .lines) (omega (arith, head-short c p q r s)) };
       }

@@ -5,7 +5,8 @@ use Prim.Native.String.{String}
 use Rattle.text.specs.Basic.{ascii, sum}
 use Rattle.items.specs.Item.{lines, Item, text, newline, spaceOrNewline, mark, group, groupEnd, block, blockEnd, run, runEnd, again, ifTest, elseItem, endIf}
 use Rattle.items.specs.Records.{bytes}
-use Rattle.listing.specs.Listing.{digits, decimal, described, recordLines, headLine, listing}
+use Rattle.items.specs.Lines.{digits, decimal, described, recordLines}
+use Rattle.listing.specs.Listing.{headLine, listing}
 
 -- the items of `[1]`
 abbrev pub oneItems : List Item

@@ -7,30 +7,8 @@ use Prim.Native.String.{String}
 use lib.Dec.{leb, eqb}
 use lib.ListN.{length, getD, take, drop}
 use Rattle.text.specs.Basic.{ascii}
-use Rattle.listing.specs.Listing.{decimal, field}
-
--- the names in the listing: those of the kinds by their numbers, 15 that of `if always`, and then others
-unfoldable pub names : List String
-names =
-    "" ∷ "text" ∷ "newline" ∷ "space-or-newline" ∷ "tab" ∷ "indent" ∷ "outdent" ∷ "mark" ∷ "group" ∷ "group-end" ∷ "block" ∷ "block-end" ∷ "run" ∷ "run-end"
-    ∷ "again" ∷ "if always" ∷ "else" ∷ "end-if" ∷ "if lines" ∷ "records" ∷ " texts" ∷ " runs" ∷ " marks"
-    ∷ []
-
--- the name with a number
-unfoldable pub nameAt : ℕ → String
-nameAt w = getD names w ""
-
--- all names joined
-abbrev pub joined : List ℕ
-joined = flatten (map ascii names)
-
--- where the name with a number starts among them
-unfoldable pub startOf : ℕ → ℕ
-startOf w = length (flatten (take w (map ascii names)))
-
--- the records of this kind have one number: mark, run, run-end and again
-abbrev pub numbered : ℕ → Bool
-numbered k = eqb k 7 || (leb 12 k && leb k 14)
+use Rattle.items.specs.Lines.{decimal, field}
+use Rattle.items.specs.Names.{nameAt, numbered}
 
 -- 'for text, the length and the text as stored', by its offset and length
 unfoldable pub storedText : List ℕ → ℕ → ℕ → List ℕ

@@ -1,67 +1,27 @@
 // The listing of records, written into a lent buffer.
 use items::Count;
+use items::lines::IF;
+use items::lines::IF_LINES;
+use items::lines::LINES;
+use items::lines::MARKS;
+use items::lines::RECORDS;
+use items::lines::RUNS;
+use items::lines::TEXT;
+use items::lines::TEXTS;
+use items::lines::field_length;
+use items::lines::is_numbered;
+use items::lines::start_of;
 ghost use mathlib.Core.Path.{_≡_};
 ghost use mathlib.Core.List.{[], _∷_};
 ghost use Prim.Native.Nat.{ℕ, _<_, _+_, _≤_};
 ghost use lib.ListN.{length};
 ghost use Rattle.text.specs.Basic.{ascii};
-ghost use Rattle.listing.specs.Listing.{decimal, field, headLine, listing};
+ghost use Rattle.items.specs.Lines.{decimal, field};
+ghost use Rattle.items.specs.Names.{nameAt};
+ghost use Rattle.listing.specs.Listing.{headLine, listing};
 ghost use Rattle.listing.specs.Writes.{page, Writes, Room};
-ghost use Rattle.listing.specs.Shown.{nameAt, startOf, numbered, storedText, shown, Readable, Line, lineAt, linesFrom};
+ghost use Rattle.listing.specs.Shown.{storedText, shown, Readable, Line, lineAt, linesFrom};
 ghost use Rattle.listing.specs.Told.{itemsIn, Told};
-
-// The kinds of records that are more than a name and a number.
-const TEXT: u32 = 1;
-
-const MARK: u32 = 7;
-
-const RUN: u32 = 12;
-
-const AGAIN: u32 = 14;
-
-const IF: u32 = 15;
-
-// The first operand of a condition on lines.
-const LINES: u32 = 1;
-
-// Names besides those of the kinds.
-const IF_LINES: u32 = 18;
-
-const RECORDS: u32 = 19;
-
-const TEXTS: u32 = 20;
-
-const RUNS: u32 = 21;
-
-const MARKS: u32 = 22;
-
-// Where each name starts in the byte string of all names, and where the last one ends.
-const STARTS: [u8; 24] = [
-    0,
-    0,
-    4,
-    11,
-    27,
-    30,
-    36,
-    43,
-    47,
-    52,
-    61,
-    66,
-    75,
-    78,
-    85,
-    90,
-    99,
-    103,
-    109,
-    117,
-    124,
-    130,
-    135,
-    141,
-];
 
 // Writes one byte, if there is room.
 fn put_byte(out: &mut [u8], at: usize, b: u8) -> usize
@@ -106,22 +66,6 @@ fn put_decimal(out: &mut [u8], at: usize, n: u32) -> usize
     put_byte(out, next, digit(n % 10))
 }
 
-// A place as a number.
-fn wide(x: u8) -> usize
-    ensures { λ r. ⌜ r ≡ x ⌝ }
-{
-    x as usize
-}
-
-// Where the name with a number starts, which is where the one before it ends.
-fn start_of(w: u32) -> usize
-    requires { ⌜ w < 24 ⌝ }
-    ensures { λ r. ⌜ r ≡ startOf w ⌝ }
-{
-    let at = w as usize;
-    wide(STARTS[at])
-}
-
 // Writes the name with a number.
 fn put_name(out: &mut [u8], at: usize, w: u32) -> usize
     requires known { ⌜ w < 23 ⌝ }
@@ -157,13 +101,6 @@ fn put_text(out: &mut [u8], at: usize, texts: &[u8], offset: u32, bytes: u32) ->
     let told = put_field(out, at, TEXT, bytes);
     let parted = put_byte(out, told, b' ');
     put_bytes(out, parted, &texts[start..end])
-}
-
-// The records of this kind have one number.
-fn is_numbered(kind: u32) -> bool
-    ensures { λ r. ⌜ r ≡ numbered kind ⌝ }
-{
-    (kind == MARK) | ((RUN <= kind) & (kind <= AGAIN))
 }
 
 // Writes a record's kind and operands.
@@ -240,11 +177,20 @@ pub fn write_listing(records: &[u32], texts: &[u8], c: Count, out: &mut [u8]) ->
     put_lines(out, head, records, texts, c.records)
 }
 
-// The length of the listing of the first records.
-pub fn listing_length(records: &[u32], texts: &[u8], c: Count) -> usize
-    requires { ⌜ Told (now records) (now texts) c ⌝ }
-    ensures { λ r. ⌜ r ≡ length (listing (itemsIn (now (records .entry)) (now (texts .entry)) (c .records))) ⌝ }
+// The length of the line of counts.
+fn head_length(c: Count) -> u64
+    ensures { λ r. ⌜ r ≡ length (headLine c) ⌝ }
 {
-    let mut none: [u8; 0] = [];
-    write_listing(records, texts, c, &mut none)
+    field_length(RECORDS, c.records)
+        + field_length(TEXTS, c.texts)
+        + field_length(RUNS, c.runs)
+        + field_length(MARKS, c.marks)
+        + 1
+}
+
+// The length of the listing of items with these counts.
+pub fn listing_length(c: Count) -> usize
+    ensures { λ r. ⌜ r ≡ length (headLine c) + c .lines ⌝ }
+{
+    (head_length(c) + c.lines as u64) as usize
 }

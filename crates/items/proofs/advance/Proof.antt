@@ -1,14 +1,41 @@
 use native.Mathlib.Omega.{arith}
+use Prim.Native.Nat.{_<_, _^_}
 use borrow.Author.Needs.{needs}
-use Rattle.items.proofs.Numbers.{advance-done, advance-full, advance-long}
+use Rattle.items.specs.Decimals.{decimal-short}
+use Rattle.items.specs.Lengths.{described-small}
+use Rattle.items.proofs.Numbers.{brought-full, counts-are, counts-full, advance-done}
 use Rattle.items.proofs.advance.Statement.{statement}
 use Rattle.items.proofs.advance.Tie as tie
+
+add-lines : tie.Need-add-lines
+add-lines c =
+    let l = c .before in
+    let i = l .before .before .before .before .before .before .before .before .before .before in
+    let s = i .before .before .before .args in
+    let f : s .e .first < 2 ^ 32 = omega arith in
+    omega (arith, l .line-length .ensures, decimal-short (s .c .records) (omega arith), described-small (s .e .kind) (s .e .first) (s .e .second) (omega arith) (omega arith))
+
+returns-2 : tie.Need-returns-2
+returns-2 c =
+    let m = c .before in
+    let k = m .before .before .before in
+    counts-full _ _ (counts-are _ _ (k .before .before .line-length .ensures) (k .larger3 .ensures) (m .before .before .larger4 .ensures) (m .before .larger5 .ensures) (m .larger6 .ensures)) (c .if2 .taken)
+
+returns-3 : tie.Need-returns-3
+returns-3 c =
+    let m = c .before in
+    let k = m .before .before .before in
+    let l = k .before .before in
+    let i = l .before .before .before .before .before .before .before .before .before .before in
+    advance-done _ _ (l .line-length .ensures) (cc) (i .if1 .left) (counts-are _ _ (l .line-length .ensures) (k .larger3 .ensures) (m .before .before .larger4 .ensures) (m .before .larger5 .ensures) (m .larger6 .ensures)) (c .if2 .left)
 
 pub advance-spec : {M : Type 1} → statement M
 advance-spec =
     tie.close
     (tie.spec
-    (λ c. advance-long _ _ (c .if1 .taken))  -- returns
+    (λ c κs. search needs)  -- larger-requires
+    (λ c κs. search needs)  -- larger-requires-2
+    (λ c. brought-full _ _ (cc) (c .if1 .taken))  -- returns
     (λ c. search needs)  -- cast-records
     (λ c. search needs)  -- add-records
     (λ c. search needs)  -- cast-texts
@@ -19,15 +46,20 @@ advance-spec =
     (λ c. search needs)  -- cast-marks
     (λ c. search needs)  -- cast-marks-2
     (λ c. search needs)  -- add-marks
-    (λ c κs. search needs)  -- larger-requires
-    (λ c κs. search needs)  -- larger-requires-2
+    (λ c. search needs)  -- cast-line-length
+    (λ c. search needs)  -- cast-line-length-2
+    (λ c κs. search needs)  -- line-length-requires
+    (λ c. search needs)  -- cast-lines
+    add-lines  -- add-lines
     (λ c κs. search needs)  -- larger-requires-3
     (λ c κs. search needs)  -- larger-requires-4
     (λ c κs. search needs)  -- larger-requires-5
-    (λ c. advance-full _ _ _ (cc) (c .if2 .taken))  -- returns-2
+    (λ c κs. search needs)  -- larger-requires-6
+    returns-2  -- returns-2
     (λ c. omega arith)  -- cast-t12
     (λ c. omega arith)  -- cast-t13
-    (λ c. omega arith)  -- cast-t14
-    (λ c. omega arith)  -- cast-t15
-    (λ c. advance-done _ _ _ (cc) (c .if2 .left))  -- returns-3
+    (λ c. omega arith)  -- cast-t16
+    (λ c. omega arith)  -- cast-t17
+    (λ c. omega arith)  -- cast-t18
+    returns-3  -- returns-3
     )

@@ -1,6 +1,6 @@
-use mathlib.Core.Path.{_∙_}
-use native.Mathlib.Nat.{zero-add}
+use native.Mathlib.Omega.{arith}
 use borrow.Author.Needs.{needs}
+use Rattle.listing.proofs.Head.{head-short}
 use Rattle.listing.proofs.listing_length.Statement.{statement}
 use Rattle.listing.proofs.listing_length.Tie as tie
 
@@ -8,7 +8,8 @@ pub listing-length-spec : {M : Type 1} → statement M
 listing-length-spec =
     tie.close
     (tie.spec
-    (λ c. search needs)  -- slice-aggregate-write-listing
-    (λ c κs. search needs)  -- write-listing-requires
-    (λ c. c .before .write-listing .ensures .counted ∙ zero-add _)  -- returns
+    (λ c κs. search needs)  -- head-length-requires
+    (λ c. search needs)  -- cast-result
+    (λ c. omega (arith, c .before .head-length .ensures, head-short (c .before .before .args .c) (omega arith) (omega arith) (omega arith) (omega arith)))  -- add-result
+    (λ c. omega (arith, c .before .head-length .ensures))  -- returns
     )

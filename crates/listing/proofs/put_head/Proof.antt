@@ -1,7 +1,7 @@
 use borrow.Author.Needs.{needs}
 use Rattle.listing.specs.Writes.{_▸_, kept, room-first, _⟫_}
 use Rattle.listing.specs.Listing.{headLine}
-use Rattle.listing.specs.Shown.{names, nameAt}
+use Rattle.items.specs.Names.{names, nameAt}
 use Rattle.listing.proofs.put_head.Statement.{statement}
 use Rattle.listing.proofs.put_head.Tie as tie
 

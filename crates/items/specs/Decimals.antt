@@ -1,13 +1,14 @@
 -- Decimal digits: the last one behind those of the tenth part.
-use mathlib.Core.Path.{_≡_, refl, ap}
+use mathlib.Core.Path.{_≡_, refl, ap, _∙_}
 use mathlib.Core.Bool.{Bool, true, false, cond}
 use mathlib.Core.List.{List, [], _∷_, _++_}
 use Prim.Native.Nat.{ℕ, zero, suc, _+_, _/_, _%_, _^_, _≤_, _<_}
 use native.Mathlib.Omega.{arith}
+use native.Mathlib.Numerals.{add-one}
 use lib.Dec.{ltb}
 use lib.ListN.{length, length-append}
 use borrow.Author.Tests.{lt-ltb, le-ltb, ltb-false}
-use Rattle.listing.specs.Listing.{digits, decimal}
+use Rattle.items.specs.Lines.{digits, decimal}
 
 -- how many digits are allowed for does not matter, where they are enough
 digits-enough : (d e n : ℕ) → n ≤ d → n ≤ e → digits d n ≡ digits e n
@@ -50,3 +51,10 @@ digits-short (suc k) (suc d) n h = go (ltb n 10) (digits-short k d (n / 10) (ome
 pub decimal-short : (n : ℕ) → n < 2 ^ 32 → length (decimal n) ≤ 10
 unfolding decimal
 decimal-short n h = digits-short 9 n n (omega arith)
+
+pub one-long : (n : ℕ) → n < 10 → length (decimal n) ≡ 1
+one-long n h = ap length (one-digit n (48 + n) h refl)
+
+-- a digit less in the tenth part
+pub tenth-shorter : (n : ℕ) → 10 ≤ n → length (decimal n) ≡ suc (length (decimal (n / 10)))
+tenth-shorter n h = ap length (last-digit n (48 + n % 10) h refl) ∙ length-append (decimal (n / 10)) ((48 + n % 10) ∷ []) ∙ add-one _

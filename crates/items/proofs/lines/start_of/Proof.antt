@@ -2,9 +2,9 @@ use borrow.Author.Needs.{needs}
 use mathlib.Core.Path.{_∙_}
 use mathlib.Core.List.{flatten}
 use Rattle.text.proofs.Table.{tabled-at}
-use Rattle.listing.specs.Shown.{names, startOf}
-use Rattle.listing.proofs.start_of.Statement.{statement}
-use Rattle.listing.proofs.start_of.Tie as tie
+use Rattle.items.specs.Names.{names, startOf}
+use Rattle.items.proofs.lines.start_of.Statement.{statement}
+use Rattle.items.proofs.lines.start_of.Tie as tie
 
 returns : tie.Need-returns
 unfolding names startOf flatten
