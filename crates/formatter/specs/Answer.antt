@@ -9,6 +9,7 @@ use Rattle.items.specs.Item.{Item, Out, stop, ok}
 use Rattle.items.specs.Records.{words, bytes, Counts, countsOf, overlaid}
 use Rattle.tree.specs.Tree.{treeOf}
 use Rattle.tree.specs.Refusal.{Refusal, refusal}
+use Rattle.listing.specs.Listing.{listing}
 use Rattle.printer.specs.Print.{sourceFile}
 
 -- What tests say of an image: 'the number and the first offending element', or its items.
@@ -38,23 +39,34 @@ withRoom words room (printed xs) =
     (cond (ltb room (length (bytes xs))) (turnedAway 12 0)
     (printed xs))
 
--- the tests 1 to 12 in order, for an image and the contents of the lent buffers at entry
-unfoldable pub ruling : List ℕ → List ℕ → List ℕ → Verdict
-ruling image rs ts = withRoom (length rs) (length ts) (verdict image)
+-- 13: 'The listing buffer, where a listing was asked for, is too short'
+unfoldable pub withListing : Option (List ℕ) → Verdict → Verdict
+withListing none v = v
+withListing (some ls) (turnedAway n e) = turnedAway n e
+withListing (some ls) (printed xs) = cond (ltb (length ls) (length (listing xs))) (turnedAway 13 0) (printed xs)
 
--- 'the answer is the number and the first offending element'; 'Success gives records, text bytes, runs and marks'.
+-- the thirteen tests in order, for an image and the contents of the lent buffers at entry, that of the listing where one was asked for
+unfoldable pub ruling : List ℕ → List ℕ → List ℕ → Option (List ℕ) → Verdict
+ruling image rs ts ls = withListing ls (withRoom (length rs) (length ts) (verdict image))
+
+-- 'the answer is the number and the first offending element'; 'Success gives records, text bytes, runs and marks, and for a listing its length'.
 pub data Answer : Type 0 where
   refused : ℕ → ℕ → Answer
-  done : Counts → Answer
+  done : Counts → Option ℕ → Answer
+
+-- the length of a listing that was asked for
+abbrev pub lengthOf : Option (List ℕ) → List Item → Option ℕ
+lengthOf none xs = none
+lengthOf (some ls) xs = some (length (listing xs))
 
 -- the answer by what the tests say
-unfoldable pub answerOf : Verdict → Answer
-answerOf (turnedAway n e) = refused n e
-answerOf (printed xs) = done (countsOf xs)
+unfoldable pub answerOf : Option (List ℕ) → Verdict → Answer
+answerOf ls (turnedAway n e) = refused n e
+answerOf ls (printed xs) = done (countsOf xs) (lengthOf ls xs)
 
 -- what a call answers
-unfoldable pub answer : List ℕ → List ℕ → List ℕ → Answer
-answer image rs ts = answerOf (ruling image rs ts)
+unfoldable pub answer : List ℕ → List ℕ → List ℕ → Option (List ℕ) → Answer
+answer image rs ts ls = answerOf ls (ruling image rs ts ls)
 
 -- 'Buffers are written only after all tests': a buffer begins with what is written and goes on as it was, or is as it was
 unfoldable pub bufferOf : (List Item → List ℕ) → Verdict → List ℕ → List ℕ
@@ -62,9 +74,13 @@ bufferOf f (turnedAway n e) buffer = buffer
 bufferOf f (printed xs) buffer = overlaid (f xs) buffer
 
 -- every word of the record buffer after a call
-unfoldable pub recordsAfter : List ℕ → List ℕ → List ℕ → List ℕ
-recordsAfter image rs ts = bufferOf (words 0) (ruling image rs ts) rs
+unfoldable pub recordsAfter : List ℕ → List ℕ → List ℕ → Option (List ℕ) → List ℕ
+recordsAfter image rs ts ls = bufferOf (words 0) (ruling image rs ts ls) rs
 
 -- every byte of the text buffer after a call
-unfoldable pub textsAfter : List ℕ → List ℕ → List ℕ → List ℕ
-textsAfter image rs ts = bufferOf bytes (ruling image rs ts) ts
+unfoldable pub textsAfter : List ℕ → List ℕ → List ℕ → Option (List ℕ) → List ℕ
+textsAfter image rs ts ls = bufferOf bytes (ruling image rs ts ls) ts
+
+-- every byte of the listing buffer after a call that asked for a listing
+unfoldable pub listingAfter : List ℕ → List ℕ → List ℕ → List ℕ → List ℕ
+listingAfter image rs ts ls = bufferOf listing (ruling image rs ts (some ls)) ls

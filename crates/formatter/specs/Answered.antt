@@ -14,12 +14,13 @@ use Rattle.items.specs.Records.{words, bytes, Counts, countsOf, overlaid, decod
 use Rattle.tree.specs.Tree.{countN, countB, treeOf}
 use Rattle.tree.specs.Refusal.{Refusal, refusal}
 use Rattle.tree.specs.Accepted.{Accepted, accepted}
+use Rattle.listing.specs.Listing.{listing}
 use Rattle.printer.specs.Print.{sourceFile}
 use Rattle.formatter.specs.PutBack.{putBack}
 use Rattle.formatter.specs.Plain.{plainFile}
 use Rattle.formatter.specs.Agree.{Same, gives, agree}
 use Rattle.formatter.specs.Counted.{records-bound}
-use Rattle.formatter.specs.Answer.{Verdict, turnedAway, printed, fromPrinting, fromTests, verdict, withRoom, ruling, refused, done, answerOf, answer, bufferOf, recordsAfter, textsAfter}
+use Rattle.formatter.specs.Answer.{Verdict, turnedAway, printed, fromPrinting, fromTests, verdict, withRoom, withListing, ruling, refused, done, lengthOf, answerOf, answer, bufferOf, recordsAfter, textsAfter, listingAfter}
 
 -- What holds of an image and of the buffers rs and ts that come back with the counts c: the records decode to the printing's items, which
 -- put back are the plain printing, the counts are theirs, and they are at most 24 for each element and 4 for each byte.
@@ -47,6 +48,12 @@ unfolding withRoom
 room-printed w r (turnedAway n e) xs h = away n e xs h
 room-printed w r (printed ys) xs h = unless 12 0 (ltb r (length (bytes ys))) (unless 11 0 (ltb w (3 * length ys)) h)
 
+listing-printed : (ls : Option (List ℕ)) (v : Verdict) (xs : List Item) → withListing ls v ≡ printed xs → v ≡ printed xs
+unfolding withListing
+listing-printed none v xs h = h
+listing-printed (some ls) (turnedAway n e) xs h = away n e xs h
+listing-printed (some ls) (printed ys) xs h = unless 13 0 (ltb (length ls) (length (listing ys))) h
+
 tests-printed : (o : Option Refusal) (v : Verdict) (xs : List Item) → fromTests o v ≡ printed xs → (o ≡ none) × (v ≡ printed xs)
 unfolding fromTests
 tests-printed none v xs h = (refl, h)
@@ -60,17 +67,27 @@ printing-printed (ok ys k) xs h = let e : ys ≡ xs = cc in (k, rw e)
 same-ok : (xs : List Item) (n : ℕ) {o : Out} → Same 0 (ok xs n) o → (n ≡ runsOf xs) × (o ≡ ok (putBack xs) (runsOf xs)) × (marksOf xs ≡ 2 * runsOf xs)
 same-ok xs n (gives p q m) = let e : n ≡ runsOf xs = omega (arith, q) in (e, rw (← p, e) refl, m)
 
--- What holds where the tests leave the items xs.
-record Passed (image : List ℕ) (xs : List Item) : Type 0 where
-  accepts : Accepted image
-  prints : sourceFile (treeOf image) 0 ≡ ok xs (runsOf xs)
-  plain : plainFile (treeOf image) 0 ≡ ok (putBack xs) (runsOf xs)
-  pairs : marksOf xs ≡ 2 * runsOf xs
+-- a refusal leaves a buffer as it was
+kept : (ls : Option (List ℕ)) (f : List Item → List ℕ) (buffer : List ℕ) (v : Verdict) (n e : ℕ) → answerOf ls v ≡ refused n e → bufferOf f v buffer ≡ buffer
+unfolding answerOf bufferOf
+kept ls f buffer (turnedAway m d) n e h = refl
+kept ls f buffer (printed xs) n e h = absurd (let z : _≡_ {A = ℕ} 0 1 = cc in omega arith)
 
-passed : (image rs ts : List ℕ) (xs : List Item) → ruling image rs ts ≡ printed xs → Passed image xs
+-- what is written leaves what is past it as it was
+behind : (n : ℕ) (ws buffer : List ℕ) → length ws ≡ n → drop n (overlaid ws buffer) ≡ drop n buffer
+behind n ws buffer e = rw (← e) (drop-append-seam ws (drop (length ws) buffer))
+
+-- What holds where the tests leave the items xs.
+pub record Passed (image : List ℕ) (xs : List Item) : Type 0 where
+  pub accepts : Accepted image
+  pub prints : sourceFile (treeOf image) 0 ≡ ok xs (runsOf xs)
+  pub plain : plainFile (treeOf image) 0 ≡ ok (putBack xs) (runsOf xs)
+  pub pairs : marksOf xs ≡ 2 * runsOf xs
+
+pub passed : (image rs ts : List ℕ) (ls : Option (List ℕ)) (xs : List Item) → ruling image rs ts ls ≡ printed xs → Passed image xs
 unfolding ruling verdict
-passed image rs ts xs h =
-    let v = room-printed (length rs) (length ts) (verdict image) xs h in
+passed image rs ts ls xs h =
+    let v = room-printed (length rs) (length ts) (verdict image) xs (listing-printed ls (withRoom (length rs) (length ts) (verdict image)) xs h) in
     let (n, p) = tests-printed (refusal image) (fromPrinting (sourceFile (treeOf image) 0)) xs v in
     let (k, o) = printing-printed (sourceFile (treeOf image) 0) xs p in
     let (e, q, m) = same-ok xs k (rw o at (agree (treeOf image) 0)) in
@@ -78,17 +95,19 @@ passed image rs ts xs h =
 
 -- ---- answers
 
-answer-printed : (v : Verdict) (c : Counts) → answerOf v ≡ done c → (xs : List Item) × (v ≡ printed xs) × (c ≡ countsOf xs)
+answer-printed : (ls : Option (List ℕ)) (v : Verdict) (c : Counts) (n : Option ℕ) → answerOf ls v ≡ done c n → (xs : List Item) × (v ≡ printed xs) × (c ≡ countsOf xs) × (n ≡ lengthOf ls xs)
 unfolding answerOf
-answer-printed (turnedAway n e) c h = absurd (let z : _≡_ {A = ℕ} 0 1 = cc in omega arith)
-answer-printed (printed xs) c h = (xs, refl, cc)
+answer-printed ls (turnedAway m e) c n h = absurd (let z : _≡_ {A = ℕ} 0 1 = cc in omega arith)
+answer-printed ls (printed xs) c n h = (xs, refl, cc, cc)
 
 -- what an answer with counts says of the buffers that come back
-pub answered : (image rs ts : List ℕ) (c : Counts) → answer image rs ts ≡ done c → Answered image (recordsAfter image rs ts) (textsAfter image rs ts) c
+pub answered :
+    (image rs ts : List ℕ) (ls : Option (List ℕ)) (c : Counts) (n : Option ℕ) → answer image rs ts ls ≡ done c n
+    → Answered image (recordsAfter image rs ts ls) (textsAfter image rs ts ls) c
 unfolding answer recordsAfter textsAfter bufferOf
-answered image rs ts c h = let (xs, v, e) = answer-printed (ruling image rs ts) c h in go xs v e (passed image rs ts xs v)
+answered image rs ts ls c n h = let (xs, v, e, _) = answer-printed ls (ruling image rs ts ls) c n h in go xs v e (passed image rs ts ls xs v)
   where
-    go : (xs : List Item) → ruling image rs ts ≡ printed xs → c ≡ countsOf xs → Passed image xs → Answered image (recordsAfter image rs ts) (textsAfter image rs ts) c
+    go : (xs : List Item) → ruling image rs ts ls ≡ printed xs → c ≡ countsOf xs → Passed image xs → Answered image (recordsAfter image rs ts ls) (textsAfter image rs ts ls) c
     go xs v e p = record {
       items = xs;
       decodes = rw (e, v) (decoded-is xs (drop (length (words 0 xs)) rs) (drop (length (bytes xs)) ts));
@@ -99,25 +118,35 @@ answered image rs ts c h = let (xs, v, e) = answer-printed (ruling image rs ts) 
       bound = rw e (rw (p .prints) at (records-bound (p .accepts)));
     }
 
--- 'Buffers are written only after all tests': a refusal leaves both as they were
-pub untouched : (image rs ts : List ℕ) (n e : ℕ) → answer image rs ts ≡ refused n e → (recordsAfter image rs ts ≡ rs) × (textsAfter image rs ts ≡ ts)
-unfolding answer answerOf recordsAfter textsAfter bufferOf
-untouched image rs ts n e h = go (ruling image rs ts) h
-  where
-    go : (v : Verdict) → answerOf v ≡ refused n e → (bufferOf (words 0) v rs ≡ rs) × (bufferOf bytes v ts ≡ ts)
-    go (turnedAway m f) q = (refl, refl)
-    go (printed xs) q = absurd (let z : _≡_ {A = ℕ} 0 1 = cc in omega arith)
+-- 'Buffers are written only after all tests': a refusal leaves each as it was
+pub untouched :
+    (image rs ts : List ℕ) (ls : Option (List ℕ)) (n e : ℕ) → answer image rs ts ls ≡ refused n e
+    → (recordsAfter image rs ts ls ≡ rs) × (textsAfter image rs ts ls ≡ ts)
+unfolding answer recordsAfter textsAfter
+untouched image rs ts ls n e h = (kept ls (words 0) rs (ruling image rs ts ls) n e h, kept ls bytes ts (ruling image rs ts ls) n e h)
+
+pub listing-untouched : (image rs ts ls : List ℕ) (n e : ℕ) → answer image rs ts (some ls) ≡ refused n e → listingAfter image rs ts ls ≡ ls
+unfolding answer listingAfter
+listing-untouched image rs ts ls n e h = kept (some ls) listing ls (ruling image rs ts (some ls)) n e h
 
 -- an answer with counts leaves what is past them as it was
 pub beyond :
-    (image rs ts : List ℕ) (c : Counts) → answer image rs ts ≡ done c
-    → (drop (3 * c .records) (recordsAfter image rs ts) ≡ drop (3 * c .records) rs) × (drop (c .texts) (textsAfter image rs ts) ≡ drop (c .texts) ts)
-unfolding answer answerOf recordsAfter textsAfter bufferOf
-beyond image rs ts c h = go (ruling image rs ts) h
+    (image rs ts : List ℕ) (ls : Option (List ℕ)) (c : Counts) (n : Option ℕ) → answer image rs ts ls ≡ done c n
+    → (drop (3 * c .records) (recordsAfter image rs ts ls) ≡ drop (3 * c .records) rs) × (drop (c .texts) (textsAfter image rs ts ls) ≡ drop (c .texts) ts)
+unfolding answer recordsAfter textsAfter bufferOf
+beyond image rs ts ls c n h = let (xs, v, e, _) = answer-printed ls (ruling image rs ts ls) c n h in go xs v e
   where
-    behind : (n : ℕ) (ws buffer : List ℕ) → length ws ≡ n → drop n (overlaid ws buffer) ≡ drop n buffer
-    behind n ws buffer e = rw (← e) (drop-append-seam ws (drop (length ws) buffer))
+    go : (xs : List Item) → ruling image rs ts ls ≡ printed xs → c ≡ countsOf xs
+        → (drop (3 * c .records) (recordsAfter image rs ts ls) ≡ drop (3 * c .records) rs) × (drop (c .texts) (textsAfter image rs ts ls) ≡ drop (c .texts) ts)
+    go xs v e = rw (v, e) (behind (3 * length xs) (words 0 xs) rs (words-length 0 xs), behind (length (bytes xs)) (bytes xs) ts refl)
 
-    go : (v : Verdict) → answerOf v ≡ done c → (drop (3 * c .records) (bufferOf (words 0) v rs) ≡ drop (3 * c .records) rs) × (drop (c .texts) (bufferOf bytes v ts) ≡ drop (c .texts) ts)
-    go (turnedAway n e) q = absurd (let z : _≡_ {A = ℕ} 0 1 = cc in omega arith)
-    go (printed xs) q = let e : c ≡ countsOf xs = cc in rw e (behind (3 * length xs) (words 0 xs) rs (words-length 0 xs), behind (length (bytes xs)) (bytes xs) ts refl)
+-- where a listing was asked for, the answer gives its length, and its buffer begins with it and goes on as it was
+pub listed :
+    (image rs ts ls : List ℕ) (c : Counts) (n : ℕ) → answer image rs ts (some ls) ≡ done c (some n)
+    → (xs : List Item) × (sourceFile (treeOf image) 0 ≡ ok xs (c .runs)) × (n ≡ length (listing xs)) × (listingAfter image rs ts ls ≡ overlaid (listing xs) ls)
+unfolding answer listingAfter bufferOf
+listed image rs ts ls c n h = let (xs, v, e, l) = answer-printed (some ls) (ruling image rs ts (some ls)) c (some n) h in go xs v e l
+  where
+    go : (xs : List Item) → ruling image rs ts (some ls) ≡ printed xs → c ≡ countsOf xs → some n ≡ lengthOf (some ls) xs
+        → (xs : List Item) × (sourceFile (treeOf image) 0 ≡ ok xs (c .runs)) × (n ≡ length (listing xs)) × (listingAfter image rs ts ls ≡ overlaid (listing xs) ls)
+    go xs v e l = (xs, rw e (passed image rs ts (some ls) xs v .prints), cc, rw v)

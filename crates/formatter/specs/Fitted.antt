@@ -8,6 +8,7 @@ use Rattle.items.specs.Item.{always, lines, Item, text, newline, spaceOrNewline
 use Rattle.items.specs.Role.{Role, stays, marks, opens, closes, repeats, role, isRun, isMark}
 use Rattle.items.specs.Records.{bytesOf, bytes}
 use Rattle.items.specs.Fitting.{Short, Fits}
+use Rattle.items.specs.Lengths.{lines-short}
 use Rattle.tree.specs.Tree.{treeOf}
 use Rattle.tree.specs.Accepted.{Accepted}
 use Rattle.printer.specs.Print.{sourceFile}
@@ -70,10 +71,12 @@ items-fit {image} a =
     let t = texts-bound a in
     let u = sum-le isRun one-run xs in
     let m = sum-le isMark one-mark xs in
+    let o = all-short (numbers-small (treeOf image)) (omega arith) (omega arith) in
     record {
-      operands = all-short (numbers-small (treeOf image)) (omega arith) (omega arith);
+      operands = o;
       records = omega arith;
       texts = omega arith;
       runs = omega arith;
       marks = omega arith;
+      lines = omega (arith, lines-short 0 o (omega arith));
     }

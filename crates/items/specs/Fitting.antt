@@ -73,7 +73,7 @@ allEmitted-cons x xs σ =
     let e₃ : c .runs + isRun (role x) + runsOf xs ≡ c .runs + (isRun (role x) + runsOf xs) = omega arith in
     let e₄ : c .marks + isMark (role x) + marksOf xs ≡ c .marks + (isMark (role x) + marksOf xs) = omega arith in
     let e₅ : c .lines + length (recordLine (c .records) x) + length (recordLines (suc (c .records)) xs) ≡ c .lines + length (recordLine (c .records) x ++ recordLines (suc (c .records)) xs) =
-        rw (length-append (recordLine (c .records) x) (recordLines (suc (c .records)) xs)) (omega arith) in
+    rw (length-append (recordLine (c .records) x) (recordLines (suc (c .records)) xs)) (omega arith) in
     let e₆ : c .records + 1 ≡ suc (c .records) = omega arith in
     rw (e₀, store-append (r .kind ∷ r .first ∷ r .second ∷ []) (words (c .texts + length (bytesOf x)) xs) (σ .records) (3 * c .records), store-append (bytesOf x) (bytes xs) (σ .texts) (c .texts), e₁, e₂, e₃, e₄, e₆, e₅)
 

@@ -1,36 +1,28 @@
-use mathlib.Core.Path.{refl, sym, ap, _∙_}
+use mathlib.Core.Option.{none}
 use borrow.Author.Needs.{needs}
-use Rattle.tree.specs.Answer.{said, passing}
-use Rattle.formatter.proofs.Calls.{turned-away, stated}
+use Rattle.formatter.proofs.Calls.{to-print, refuses, prints, stated}
 use Rattle.formatter.proofs.print_items.Statement.{statement}
 use Rattle.formatter.proofs.print_items.Tie as tie
+
+returns-2 : tie.Need-returns-2
+returns-2 c =
+    let p = c .before .before .before .before in
+    let m = p .before .before .before .before .before in
+    stated _ _ _ none (prints _ _ _ (m .enum-told .given .1) (m .before .before .before .judge .ensures) (p .before .start .ensures) (p .print-source .ensures))
 
 pub print-items-spec : {M : Type 1} → statement M
 print-items-spec =
     tie.close
     (tie.spec
-    (λ c κs. search needs)  -- refusal-requires
+    (λ c. search needs)  -- slice-aggregate-judge
+    (λ c κs. search needs)  -- judge-requires
     (λ c. search needs)  -- enum-told
     (λ c. search needs)  -- enum-told-2
-    (λ c. search needs)  -- enum-known-t
-    (λ c. search needs)  -- enum-known-t-2
-    (λ c. search needs)  -- enum-known-t-3
-    (λ c. search needs)  -- enum-known-t-4
-    (λ c. search needs)  -- enum-known-t-5
-    (λ c. search needs)  -- enum-known-t-6
-    (λ c. search needs)  -- enum-known-t-7
-    (λ c. search needs)  -- enum-told-3
-    (λ c κs. passing _ _ _ (ap said (sym (c .before .before .enum-told3 .given .1)) ∙ c .before .before .before .before .refusal .ensures) .unrefused)  -- print-accepted-requires
-    (λ c. stated (turned-away (c .enum-told .given .1) refl (c .before .before .refusal .ensures)))  -- returns
-    (λ c. stated (turned-away (c .enum-told2 .given .1) refl (c .before .before .refusal .ensures)))  -- returns-2
-    (λ c. stated (turned-away (c .before .t .given .1) refl (c .before .before .before .refusal .ensures)))  -- returns-3
-    (λ c. stated (turned-away (c .before .t2 .given .1) refl (c .before .before .before .refusal .ensures)))  -- returns-4
-    (λ c. stated (turned-away (c .before .t3 .given .1) refl (c .before .before .before .refusal .ensures)))  -- returns-5
-    (λ c. stated (turned-away (c .before .t4 .given .1) refl (c .before .before .before .refusal .ensures)))  -- returns-6
-    (λ c. stated (turned-away (c .before .t5 .given .1) refl (c .before .before .before .refusal .ensures)))  -- returns-7
-    (λ c. stated (turned-away (c .before .t6 .given .1) refl (c .before .before .before .refusal .ensures)))  -- returns-8
-    (λ c. stated (turned-away (c .before .t7 .given .1) refl (c .before .before .before .refusal .ensures)))  -- returns-9
+    (λ c. stated _ _ _ none (refuses _ _ _ none (c .enum-told2 .given .1) (c .before .before .before .judge .ensures)))  -- returns
+    (λ c. search needs)  -- slice-aggregate-print-source
+    (λ c κs. search needs)  -- start-requires
+    (λ c κs. to-print (c .before .before .before .before .enum-told .given .1) (c .before .before .before .before .before .before .before .judge .ensures))  -- print-source-requires
     (λ c. search needs)  -- same-length
     (λ c. search needs)  -- same-length-2
-    (λ c. stated (c .before .before .before .before .print-accepted .ensures))  -- returns-10
+    returns-2  -- returns-2
     )
