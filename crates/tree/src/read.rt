@@ -7,8 +7,8 @@ ghost use Prim.Native.Nat.{_+_, _*_};
 ghost use Rattle.tree.specs.Tree.{countN, countB, textsOf};
 ghost use Rattle.tree.specs.Image.{kindIn, levelIn, sizeIn, startIn, textIn};
 
-// N stands at the start.
-const COUNT: usize = 4;
+// How many bytes N and B have. N stands at the start.
+pub const COUNT: usize = 4;
 
 const ELEMENT: usize = 8;
 
