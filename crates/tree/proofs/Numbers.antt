@@ -5,18 +5,11 @@ use Prim.Native.Nat.{ℕ, _+_, _*_}
 use native.Mathlib.Omega.{arith}
 use native.Mathlib.Nat.{add-zero}
 use lib.ListN.{drop}
-use lib.Seq.{getD-drop}
-use Rattle.tree.specs.Tree.{byte, le16, le32}
+use Rattle.tree.specs.Tree.{le16, le32}
 use Rattle.tree.specs.Image.{headerAt, kindIn, levelIn, sizeIn, le16-drop, le32-drop}
-use Rattle.tree.specs.declared.bytes.Header.{Header}
 
-pub u16-as : (s : List ℕ) (at : ℕ) {t : List ℕ} {a b : ℕ} → t ≡ drop at s → a ≡ byte t 0 → b ≡ byte t 1 → a + 256 * b ≡ le16 s at
-unfolding le16
-u16-as s at p q r = rw (q, r, p, getD-drop at s 0 0, getD-drop at s 1 0, add-zero at)
-
-pub u32-as : (s : List ℕ) (at : ℕ) {t : List ℕ} {a b : ℕ} → t ≡ drop at s → a ≡ le16 t 0 → b ≡ le16 t 2 → a + 65536 * b ≡ le32 s at
-unfolding le32
-u32-as s at p q r = rw (q, r, p, le16-drop at s 0, le16-drop at s 2, add-zero at)
+pub number-as : (s : List ℕ) (at : ℕ) {t : List ℕ} {n : ℕ} → t ≡ drop at s → n ≡ le32 t 0 → n ≡ le32 s at
+number-as s at p q = rw (q, p, le32-drop at s 0, add-zero at)
 
 pub header-as : (s : List ℕ) (at : ℕ) {t : List ℕ} {k l z : ℕ} → t ≡ drop at s → k ≡ le16 t 0 → l ≡ le16 t 2 → z ≡ le32 t 4 → record { kind = k; level = l; size = z } ≡ headerAt s at
 unfolding headerAt

@@ -37,7 +37,7 @@ use denote.Triple.Walked.{says, Stays, stay-none, stay-none-slice, walkOf, goes-
 use denote.Triple.Clauses.{closing, ensured, lasts}
 use denote.Exit.{yes}
 use Rattle.tree.specs.declared.reader.Reader.{Reader}
-use Rattle.tree.proofs.Stepping.{Answer, B, covered, covered-clauses, Covered, step, step-clauses, Step}
+use Rattle.tree.proofs.Stepping.{Answer, B, covered, covered-clauses, step, step-clauses, Step}
 use Rattle.tree.proofs.reader.Reader as T
 use Rattle.tree.proofs.reader.Reader.Laws as T′
 use Rattle.tree.proofs.reader.new as new

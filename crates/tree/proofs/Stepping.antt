@@ -63,7 +63,7 @@ module _ (X : Answer) where
   step = record { signature = record { lifetimes = 1; outlives = []; params = plain B ∷ []; result = plain (λ _. R) }; kept = (yes, tt) }
 
   -- the step's operations
-  abbrev pub code : Name → Fn
+  abbrev code : Name → Fn
   code callee = record {
     lifetimes = 1;
     outlives = [];

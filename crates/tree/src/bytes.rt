@@ -1,6 +1,6 @@
 // Numbers at a place of a slice; a byte past its end is 0.
 ghost use mathlib.Core.Path.{_≡_};
-ghost use Prim.Native.Nat.{_-_};
+ghost use Prim.Native.Nat.{_+_, _-_, _<_, _^_};
 ghost use lib.ListN.{length, take, drop};
 ghost use Rattle.tree.specs.Tree.{byte, le16, le32};
 ghost use Rattle.tree.specs.Image.{headerAt};
@@ -38,20 +38,27 @@ pub fn front(s: &[u8], n: usize) -> &[u8]
     if n <= s.len() { &s[..n] } else { s }
 }
 
-// The little-endian number of the two bytes at a place.
-fn u16_at(s: &[u8], at: usize) -> u16
-    ensures { λ r. ⌜ r ≡ le16 (now (s .entry)) at ⌝ }
+// The little-endian number of the two bytes at i.
+fn u16_at(s: &[u8], i: usize) -> u16
+    requires { ⌜ i + 1 < 2 ^ 64 ⌝ }
+    ensures { λ r. ⌜ r ≡ le16 (now (s .entry)) i ⌝ }
 {
-    let t = behind(s, at);
-    byte_at(t, 0) as u16 + 256 * (byte_at(t, 1) as u16)
+    byte_at(s, i) as u16 + 256 * (byte_at(s, i + 1) as u16)
 }
 
-// The little-endian number of the four bytes at a place.
-pub fn u32_at(s: &[u8], at: usize) -> u32
+// The little-endian number of the four bytes at i.
+fn u32_at(s: &[u8], i: usize) -> u32
+    requires { ⌜ i + 3 < 2 ^ 64 ⌝ }
+    ensures { λ r. ⌜ r ≡ le32 (now (s .entry)) i ⌝ }
+{
+    u16_at(s, i) as u32 + 65536 * (u16_at(s, i + 2) as u32)
+}
+
+// The number whose four bytes stand at a place.
+pub fn number_at(s: &[u8], at: usize) -> u32
     ensures { λ r. ⌜ r ≡ le32 (now (s .entry)) at ⌝ }
 {
-    let t = behind(s, at);
-    u16_at(t, 0) as u32 + 65536 * (u16_at(t, 2) as u32)
+    u32_at(behind(s, at), 0)
 }
 
 // The element whose eight bytes stand at a place.

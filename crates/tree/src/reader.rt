@@ -44,7 +44,7 @@ pub fn left<'a>(r: Reader<'a>) -> usize
 pub fn read_u32<'a>(r: Reader<'a>) -> u32
     ensures { λ n. ⌜ n ≡ le32 (now (r .entry .image)) (r .entry .at) ⌝ }
 {
-    bytes::u32_at(r.image, r.at)
+    bytes::number_at(r.image, r.at)
 }
 
 // The element at the reader's place.
