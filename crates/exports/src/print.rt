@@ -106,12 +106,12 @@ pub extern "C" fn tungvesk_list(
     ensures { λ _. ⌜ now (texts .exit) ≡ textsAfter (now (image .entry)) (now (records .entry)) (now (texts .entry)) (some (now (listing .entry))) ⌝ }
     ensures { λ _. ⌜ now (listing .exit) ≡ listingAfter (now (image .entry)) (now (records .entry)) (now (texts .entry)) (now (listing .entry)) ⌝ }
 {
-    let r = report_listed(formatter::list_items(image, records, texts, listing));
-    counts[0] = r.counts.records as u64;
-    counts[1] = r.counts.texts as u64;
-    counts[2] = r.counts.runs as u64;
-    counts[3] = r.counts.marks as u64;
-    counts[4] = r.bytes as u64;
-    counts[5] = r.element as u64;
-    r.number
+    let l = report_listed(formatter::list_items(image, records, texts, listing));
+    counts[0] = l.counts.records as u64;
+    counts[1] = l.counts.texts as u64;
+    counts[2] = l.counts.runs as u64;
+    counts[3] = l.counts.marks as u64;
+    counts[4] = l.bytes as u64;
+    counts[5] = l.element as u64;
+    l.number
 }
