@@ -27,14 +27,6 @@ unsafe extern "C" {
     ) -> u32;
 }
 
-/// The answer to an image: its records, or the number of a refusal and its
-/// element.
-#[derive(Debug, Clone, PartialEq, Eq)]
-pub enum Answer {
-    Printed(Records),
-    Refused(u32, usize),
-}
-
 /// The number of a refusal, its element and 0, or 0 with N and B.
 pub fn refusal(image: &[u8]) -> [u32; 3] {
     let mut values = [FILL; 2];
@@ -44,75 +36,129 @@ pub fn refusal(image: &[u8]) -> [u32; 3] {
     [number, values[0], values[1]]
 }
 
+/// What a call is to answer to an image: its records, or the number of a refusal
+/// and its element.
+#[derive(Clone, Copy)]
+pub enum Answer<'r> {
+    Printed(&'r Records),
+    Refused(u32, usize),
+}
+
+impl Answer<'_> {
+    /// The number and the five values of the call.
+    fn values(self) -> (u32, [u64; 5]) {
+        match self {
+            Answer::Printed(records) => {
+                let [a, b, c, d] = records.counts().map(|n| n as u64);
+                (0, [a, b, c, d, 0])
+            }
+            Answer::Refused(number, element) => (number, [0, 0, 0, 0, element as u64]),
+        }
+    }
+}
+
 /// What the buffers hold before a call.
 const FILL: u32 = 0xa5a5_a5a5;
+const BYTE: u8 = FILL as u8;
+/// So many cells behind those that are lent are looked at too.
+const BEHIND: usize = 8;
 
-/// Buffers that are lent to a call.
+/// How much is lent to a call.
+#[derive(Debug, Clone, Copy)]
+pub struct Room {
+    pub words: usize,
+    pub bytes: usize,
+}
+
+impl Room {
+    /// What these records take.
+    pub fn of(records: &Records) -> Self {
+        Self {
+            words: records.records.as_flattened().len(),
+            bytes: records.texts.len(),
+        }
+    }
+}
+
+/// Buffers of which a part is lent to each call. Between the comparisons every
+/// cell holds the pattern.
+#[derive(Default)]
 pub struct Buffers {
     records: Vec<u32>,
     texts: Vec<u8>,
 }
 
 impl Buffers {
-    pub fn new(words: usize, texts: usize) -> Self {
-        Self {
-            records: vec![FILL; words],
-            texts: vec![FILL as u8; texts],
-        }
+    /// Makes sure that there is so much to lend.
+    fn provide(&mut self, room: Room) {
+        let (words, bytes) = (room.words + BEHIND, room.bytes + BEHIND);
+        self.records.resize(words.max(self.records.len()), FILL);
+        self.texts.resize(bytes.max(self.texts.len()), BYTE);
     }
 
-    /// Whether anything past so many words and bytes has changed.
-    fn changed(&self, words: usize, texts: usize) -> bool {
-        self.records[words..].iter().any(|w| *w != FILL)
-            || self.texts[texts..].iter().any(|b| *b != FILL as u8)
-    }
-
-    /// The records that a call left, or what is wrong with them.
-    fn take(&self, answer: u32, counts: [u32; 4]) -> Result<Records, String> {
-        if answer != 0 {
-            return Err(format!("answered {answer}"));
-        }
-        let [records, texts, runs, marks] = counts.map(|n| n as usize);
-        if 3 * records > self.records.len() || texts > self.texts.len() {
-            return Err(format!("counts {counts:?} past the buffers"));
-        }
-        if self.changed(3 * records, texts) {
-            return Err("something past the counts has changed".to_owned());
-        }
-        let (records, texts) = (&self.records[..3 * records], &self.texts[..texts]);
-        let found = Records {
-            records: records.as_chunks().0.to_vec(),
-            texts: texts.to_vec(),
+    /// Whether a call in this room has written these records and nothing else.
+    /// Puts the pattern back.
+    fn compare(&mut self, room: Room, wanted: &Records) -> Result<(), String> {
+        let used = Room::of(wanted);
+        let (records, behind) = self.records[..room.words + BEHIND].split_at_mut(used.words);
+        let (texts, after) = self.texts[..room.bytes + BEHIND].split_at_mut(used.bytes);
+        let fault = if records != wanted.records.as_flattened() {
+            let ours = records.as_chunks().0.iter();
+            let mut pairs = ours.zip(&wanted.records).enumerate();
+            let (place, (ours, wanted)) = pairs.find(|(_, (a, b))| a != b).expect("a difference");
+            format!("record {place} is {ours:?}, and not {wanted:?}")
+        } else if texts != wanted.texts {
+            "the texts differ".to_owned()
+        } else if behind.iter().any(|w| *w != FILL) || after.iter().any(|b| *b != BYTE) {
+            "a cell that is not to be written has changed".to_owned()
+        } else {
+            records.fill(FILL);
+            texts.fill(BYTE);
+            return Ok(());
         };
-        if (found.runs(), found.marks()) != (runs, marks) {
-            return Err(format!("runs and marks counted as {runs} and {marks}"));
-        }
-        Ok(found)
+        self.records.fill(FILL);
+        self.texts.fill(BYTE);
+        Err(fault)
     }
 
-    /// The records of one trivia or custom error in one of the three places.
-    pub fn comment(&mut self, kind: u16, text: &str, place: u32) -> Result<Records, String> {
+    /// Compares the records of one trivia or custom error in one of the three
+    /// places.
+    pub fn comment(
+        &mut self,
+        (kind, text, place): (u16, &str, u32),
+        room: Room,
+        wanted: &Records,
+    ) -> Result<(), String> {
+        self.provide(room);
         let mut counts = [FILL; 4];
         // The pointers and lengths are those of slices that live until the call
         // ends, and no two of them overlap.
-        let answer = unsafe {
+        let number = unsafe {
             tungvesk_comment(
                 u32::from(kind),
                 place,
                 text.as_ptr(),
                 text.len(),
                 self.records.as_mut_ptr(),
-                self.records.len(),
+                room.words,
                 self.texts.as_mut_ptr(),
-                self.texts.len(),
+                room.bytes,
                 &mut counts,
             )
         };
-        self.take(answer, counts)
+        let cells = self.compare(room, wanted);
+        let expected = wanted.counts().map(|n| n as u32);
+        if (number, counts) != (0, expected) {
+            return Err(format!(
+                "{number} with {counts:?}, and not 0 with {expected:?}"
+            ));
+        }
+        cells
     }
 
     /// The call by itself: the number and the five values.
-    pub fn call(&mut self, image: &[u8]) -> (u32, [u64; 5]) {
+    pub fn call(&mut self, image: &[u8], room: Room) -> (u32, [u64; 5]) {
+        self.provide(room);
         let mut values = [u64::from(FILL); 5];
         // The pointers and lengths are those of slices that live until the call
         // ends, and no two of them overlap.
@@ -121,29 +167,29 @@ impl Buffers {
                 image.as_ptr(),
                 image.len(),
                 self.records.as_mut_ptr(),
-                self.records.len(),
+                room.words,
                 self.texts.as_mut_ptr(),
-                self.texts.len(),
+                room.bytes,
                 &mut values,
             )
         };
         (number, values)
     }
 
-    /// The answer to an image, or what is wrong with it.
-    pub fn print(&mut self, image: &[u8]) -> Result<Answer, String> {
-        let (number, values) = self.call(image);
-        let [counts @ .., element] = values;
-        if number != 0 {
-            if self.changed(0, 0) || counts != [0; 4] {
-                return Err(format!("refused with {number}, and something was written"));
-            }
-            return Ok(Answer::Refused(number, element as usize));
+    /// Compares the answer to an image, and every cell.
+    pub fn print(&mut self, image: &[u8], room: Room, wanted: Answer) -> Result<(), String> {
+        let (number, values) = self.call(image, room);
+        let cells = match wanted {
+            Answer::Printed(records) => self.compare(room, records),
+            Answer::Refused(..) => self.compare(room, &Records::default()),
+        };
+        let expected = wanted.values();
+        if (number, values) != expected {
+            let (wanted, counts) = expected;
+            return Err(format!(
+                "{number} with {values:?}, and not {wanted} with {counts:?}"
+            ));
         }
-        if element != 0 {
-            return Err(format!("printed, with the element {element}"));
-        }
-        let records = self.take(number, counts.map(|n| n as u32))?;
-        Ok(Answer::Printed(records))
+        cells
     }
 }
