@@ -1,6 +1,8 @@
 //! Safe calls of the library's exported functions. A slice is passed as its
 //! pointer and its length, an array as its pointer.
 
+use std::fmt;
+
 use oracle::records::Records;
 
 unsafe extern "C" {
@@ -63,6 +65,47 @@ const BYTE: u8 = FILL as u8;
 /// So many cells behind those that are lent are looked at too.
 const BEHIND: usize = 8;
 
+/// Cells of which the first are lent to a call. Between the comparisons all hold
+/// the pattern.
+struct Cells<T> {
+    all: Vec<T>,
+    pattern: T,
+}
+
+impl<T: Copy + PartialEq + fmt::Debug> Cells<T> {
+    fn new(pattern: T) -> Self {
+        let all = vec![];
+        Self { all, pattern }
+    }
+
+    /// Where so many cells begin, to lend them.
+    fn lend(&mut self, lent: usize) -> *mut T {
+        let least = lent + BEHIND;
+        if self.all.len() < least {
+            self.all.resize(least, self.pattern);
+        }
+        self.all.as_mut_ptr()
+    }
+
+    /// Whether a call that was lent so many has written these and no others. Puts
+    /// the pattern back.
+    fn compare(&mut self, lent: usize, wanted: &[T]) -> Result<(), String> {
+        let pattern = self.pattern;
+        let (written, rest) = self.all[..lent + BEHIND].split_at_mut(wanted.len());
+        if written == wanted && rest.iter().all(|cell| *cell == pattern) {
+            written.fill(pattern);
+            return Ok(());
+        }
+        let wanted = |place| *wanted.get(place).unwrap_or(&pattern);
+        let mut cells = self.all.iter().enumerate();
+        let found = cells.find(|(place, cell)| **cell != wanted(*place));
+        let (place, cell) = found.expect("a difference");
+        let fault = format!("cell {place} is {cell:?}, and not {:?}", wanted(place));
+        self.all.fill(pattern);
+        Err(fault)
+    }
+}
+
 /// How much is lent to a call.
 #[derive(Debug, Clone, Copy)]
 pub struct Room {
@@ -80,45 +123,29 @@ impl Room {
     }
 }
 
-/// Buffers of which a part is lent to each call. Between the comparisons every
-/// cell holds the pattern.
-#[derive(Default)]
+/// The buffers of the calls.
 pub struct Buffers {
-    records: Vec<u32>,
-    texts: Vec<u8>,
+    records: Cells<u32>,
+    texts: Cells<u8>,
+}
+
+impl Default for Buffers {
+    fn default() -> Self {
+        Self {
+            records: Cells::new(FILL),
+            texts: Cells::new(BYTE),
+        }
+    }
 }
 
 impl Buffers {
-    /// Makes sure that there is so much to lend.
-    fn provide(&mut self, room: Room) {
-        let (words, bytes) = (room.words + BEHIND, room.bytes + BEHIND);
-        self.records.resize(words.max(self.records.len()), FILL);
-        self.texts.resize(bytes.max(self.texts.len()), BYTE);
-    }
-
     /// Whether a call in this room has written these records and nothing else.
-    /// Puts the pattern back.
     fn compare(&mut self, room: Room, wanted: &Records) -> Result<(), String> {
-        let used = Room::of(wanted);
-        let (records, behind) = self.records[..room.words + BEHIND].split_at_mut(used.words);
-        let (texts, after) = self.texts[..room.bytes + BEHIND].split_at_mut(used.bytes);
-        let fault = if records != wanted.records.as_flattened() {
-            let ours = records.as_chunks().0.iter();
-            let mut pairs = ours.zip(&wanted.records).enumerate();
-            let (place, (ours, wanted)) = pairs.find(|(_, (a, b))| a != b).expect("a difference");
-            format!("record {place} is {ours:?}, and not {wanted:?}")
-        } else if texts != wanted.texts {
-            "the texts differ".to_owned()
-        } else if behind.iter().any(|w| *w != FILL) || after.iter().any(|b| *b != BYTE) {
-            "a cell that is not to be written has changed".to_owned()
-        } else {
-            records.fill(FILL);
-            texts.fill(BYTE);
-            return Ok(());
-        };
-        self.records.fill(FILL);
-        self.texts.fill(BYTE);
-        Err(fault)
+        let words = wanted.records.as_flattened();
+        let records = self.records.compare(room.words, words);
+        let texts = self.texts.compare(room.bytes, &wanted.texts);
+        records.map_err(|fault| format!("records: {fault}"))?;
+        texts.map_err(|fault| format!("texts: {fault}"))
     }
 
     /// Compares the records of one trivia or custom error in one of the three
@@ -129,19 +156,18 @@ impl Buffers {
         room: Room,
         wanted: &Records,
     ) -> Result<(), String> {
-        self.provide(room);
         let mut counts = [FILL; 4];
-        // The pointers and lengths are those of slices that live until the call
-        // ends, and no two of them overlap.
+        // The pointers and lengths are those of slices, and of cells that are
+        // lent, which live until the call ends; no two of them overlap.
         let number = unsafe {
             tungvesk_comment(
                 u32::from(kind),
                 place,
                 text.as_ptr(),
                 text.len(),
-                self.records.as_mut_ptr(),
+                self.records.lend(room.words),
                 room.words,
-                self.texts.as_mut_ptr(),
+                self.texts.lend(room.bytes),
                 room.bytes,
                 &mut counts,
             )
@@ -158,17 +184,16 @@ impl Buffers {
 
     /// The call by itself: the number and the five values.
     pub fn call(&mut self, image: &[u8], room: Room) -> (u32, [u64; 5]) {
-        self.provide(room);
         let mut values = [u64::from(FILL); 5];
-        // The pointers and lengths are those of slices that live until the call
-        // ends, and no two of them overlap.
+        // The pointers and lengths are those of slices, and of cells that are
+        // lent, which live until the call ends; no two of them overlap.
         let number = unsafe {
             tungvesk_print(
                 image.as_ptr(),
                 image.len(),
-                self.records.as_mut_ptr(),
+                self.records.lend(room.words),
                 room.words,
-                self.texts.as_mut_ptr(),
+                self.texts.lend(room.bytes),
                 room.bytes,
                 &mut values,
             )
@@ -191,5 +216,30 @@ impl Buffers {
             ));
         }
         cells
+    }
+}
+
+#[cfg(test)]
+mod tests {
+    use super::*;
+
+    #[test]
+    fn every_cell_is_looked_at() {
+        let (lent, wanted) = (4, b"abc");
+        let mut cells = Cells::new(BYTE);
+        cells.lend(lent);
+        assert_eq!(cells.compare(lent, b""), Ok(()));
+        for place in 0..lent + BEHIND {
+            cells.all[..wanted.len()].copy_from_slice(wanted);
+            assert_eq!(cells.compare(lent, wanted), Ok(()));
+            cells.all[..wanted.len()].copy_from_slice(wanted);
+            cells.all[place] = b'x';
+            let fault = cells.compare(lent, wanted).expect_err("a fault");
+            assert!(
+                fault.starts_with(&format!("cell {place} is 120,")),
+                "{fault}"
+            );
+            assert_eq!(cells.compare(lent, b""), Ok(()), "the pattern is back");
+        }
     }
 }
