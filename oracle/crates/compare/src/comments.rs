@@ -2,27 +2,57 @@
 
 use oracle::{image, print};
 
-use crate::{library::Buffers, report::Report};
+use crate::{
+    inputs::Inputs,
+    library::{Buffers, Room},
+    report::Report,
+    threads::share,
+};
 
 const MULTI_LINE: u16 = 65;
 
-/// Every trivia and error of these images.
-pub fn of_images(images: &[Vec<u8>]) -> Report {
-    let mut report = Report::new("comments and errors of the images, in three places");
-    for bytes in images {
-        for element in image::read(bytes).expect("a valid image") {
-            if (64..=72).contains(&element.kind) {
-                three_places(&mut report, element.kind, &element.text);
-            }
+/// What a thread has compared.
+struct Comments {
+    buffers: Buffers,
+    report: Report,
+}
+
+impl Comments {
+    fn new(name: &'static str) -> Self {
+        Self {
+            buffers: Buffers::default(),
+            report: Report::new(name),
         }
     }
-    report
+}
+
+impl Default for Comments {
+    fn default() -> Self {
+        Self::new("comments and errors of the images, in three places")
+    }
+}
+
+/// Every trivia and error of the images that are not damaged.
+pub fn of_images(inputs: &Inputs) -> Report {
+    let parts = share(inputs.undamaged(), |comments: &mut Comments, number| {
+        for element in image::read(&inputs.image(number)).expect("a valid image") {
+            if (64..=72).contains(&element.kind) {
+                comments.three_places(number, element.kind, &element.text);
+            }
+        }
+    });
+    let mut sum = Comments::default().report;
+    for part in parts {
+        sum.add(part.report);
+    }
+    sum
 }
 
 /// All multi-line comments, unterminated comments and errors with up to six
 /// bytes inside, of those that matter.
 pub fn exhaustive() -> Report {
-    let mut report = Report::new("comments and errors of up to six bytes inside, in three places");
+    let name = "comments and errors of up to six bytes inside, in three places";
+    let mut comments = Comments::new(name);
     let alphabet = [b'a', b' ', b'\t', b'\n', b'*', b'\r'];
     for length in 0..=6u32 {
         for number in 0..alphabet.len().pow(length) {
@@ -34,30 +64,33 @@ pub fn exhaustive() -> Report {
                     byte as char
                 })
                 .collect();
-            three_places(&mut report, MULTI_LINE, &format!("/*{inside}*/"));
+            let mut compare = |kind, text: &str| comments.three_places(number, kind, text);
+            compare(MULTI_LINE, &format!("/*{inside}*/"));
             if length < 5 {
-                three_places(&mut report, 67, &inside);
-                three_places(&mut report, 68, &format!("#{inside}"));
-                three_places(&mut report, 69, &format!("//{inside}"));
-                three_places(&mut report, 70, &inside);
+                compare(67, &inside);
+                compare(68, &format!("#{inside}"));
+                compare(69, &format!("//{inside}"));
+                compare(70, &inside);
             }
         }
     }
-    report
+    comments.report
 }
 
-fn three_places(report: &mut Report, kind: u16, text: &str) {
-    for place in 0..3 {
-        let original = print::comment(kind, text, place);
+impl Comments {
+    fn three_places(&mut self, number: usize, kind: u16, text: &str) {
         // Room for more than any comment gives.
-        let room = 4 * text.len() + 16;
-        let ours = Buffers::new(3 * room, room).comment(kind, text, place);
-        if ours.as_ref() == Ok(&original) {
-            report.same();
-        } else {
-            report.differs(text.len(), || {
-                format!("kind {kind}, place {place}, {text:?}: {ours:?}, the original {original:?}")
-            });
+        let bytes = 4 * text.len() + 16;
+        let words = 3 * bytes;
+        for place in 0..3 {
+            let original = print::comment(kind, text, place);
+            let room = Room { words, bytes };
+            match self.buffers.comment((kind, text, place), room, &original) {
+                Ok(()) => self.report.same(),
+                Err(fault) => self.report.differs(text.len(), number, || {
+                    format!("kind {kind}, place {place}, {text:?}: {fault}")
+                }),
+            }
         }
     }
 }

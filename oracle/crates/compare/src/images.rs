@@ -1,89 +1,179 @@
 //! Whole images: refusals 1 to 12, the records with their four counts, and
 //! every cell of the lent buffers.
 
-use oracle::print::{Printed, print};
+use std::time::Instant;
 
-use crate::{
-    library::{Answer, Buffers},
-    refusals::{inputs, shown, tested},
-    report::Report,
+use oracle::{
+    image::{self, Element, Fault},
+    limits,
+    print::{Printed, print},
+    records::Records,
 };
 
-/// What is answered where the room suffices: 1 to 9 by the oracle's own reading
-/// of document 01, else by the original.
-fn expected(bytes: &[u8]) -> Answer {
-    match tested(bytes).map(|elements| print(&elements)) {
-        Ok(Printed::Items(records)) => Answer::Printed(records),
-        Ok(Printed::Panicked { element, .. }) => Answer::Refused(10, element),
-        Err(fault) => Answer::Refused(fault.number, fault.element),
+use crate::{
+    inputs::{Inputs, shown},
+    library::{self, Answer, Buffers, Room},
+    report::Report,
+    threads,
+};
+
+/// What a thread has compared.
+pub struct Images {
+    buffers: Buffers,
+    pub tests: Report,
+    pub answers: Report,
+    /// Images by refusal 1 to 9, 0 for none.
+    pub by_refusal: [u64; 10],
+    /// Calls by answer: printed, then refusals 1 to 12.
+    pub by_answer: [u64; 13],
+}
+
+impl Default for Images {
+    fn default() -> Self {
+        Self {
+            buffers: Buffers::default(),
+            tests: Report::new("refusals 1 to 9"),
+            answers: Report::new(
+                "images where the room suffices or is short, refusals 1 to 12 and records",
+            ),
+            by_refusal: [0; 10],
+            by_answer: [0; 13],
+        }
     }
 }
 
-/// Words and bytes to lend, each with the answer there: more than enough, just
-/// enough, one word or one byte less. Where both are short, the records count.
-fn rooms(wanted: Answer) -> Vec<(usize, usize, Answer)> {
-    let Answer::Printed(records) = &wanted else {
-        return vec![(64, 64, wanted.clone()), (0, 0, wanted)];
-    };
-    let (words, texts) = (3 * records.records.len(), records.texts.len());
-    let mut all = vec![
-        (words - 1, texts, Answer::Refused(11, 0)),
-        (words - 1, texts.saturating_sub(1), Answer::Refused(11, 0)),
-    ];
-    if texts > 0 {
-        all.push((words, texts - 1, Answer::Refused(12, 0)));
+/// The elements of an image, or which of the refusals 1 to 9 turns it away. The
+/// original has none of them: this is the oracle's own reading of document 01.
+fn tested(bytes: &[u8]) -> Result<Vec<Element>, Fault> {
+    let elements = image::read(bytes)?;
+    limits::texts(&elements).map_or(Ok(elements), Err)
+}
+
+/// A few cells more than are written.
+const MORE: usize = 5;
+
+/// Words and bytes that suffice: just, or with a few cells more, in turn.
+fn enough(number: usize, records: &Records) -> Room {
+    let Room { words, bytes } = Room::of(records);
+    let more = MORE * (number % 2);
+    Room {
+        words: words + more,
+        bytes: bytes + more,
     }
-    all.push((words, texts, wanted.clone()));
-    all.push((words + 4, texts + 5, wanted));
-    all
 }
 
-/// Where two answers differ.
-fn difference(ours: &Result<Answer, String>, wanted: &Answer) -> String {
-    let (Ok(Answer::Printed(ours)), Answer::Printed(wanted)) = (ours, wanted) else {
-        let brief = |answer: &Answer| match answer {
-            Answer::Printed(records) => format!("{} records", records.records.len()),
-            refused => format!("{refused:?}"),
-        };
-        let ours = ours.as_ref().map_or_else(Clone::clone, brief);
-        return format!("{ours}, and not {}", brief(wanted));
+/// For every second image one byte less, one word less or both, in turn, with the
+/// refusal there. Where both are short, the records count.
+fn short(number: usize, records: &Records) -> Option<(Room, u32)> {
+    let Room { words, bytes } = Room::of(records);
+    let (fewer_words, fewer_bytes, refusal) = match number % 6 {
+        0 if bytes > 0 => (0, 1, 12),
+        2 if bytes > 0 => (1, 1, 11),
+        0 | 2 | 4 => (1, 0, 11),
+        _ => return None,
     };
-    let place = (0..)
-        .find(|&n| ours.records.get(n) != wanted.records.get(n) || n == ours.records.len())
-        .expect("both end");
-    format!(
-        "record {place} is {:?}, and not {:?}; texts of {} bytes, and not {}",
-        ours.records.get(place),
-        wanted.records.get(place),
-        ours.texts.len(),
-        wanted.texts.len()
-    )
+    let room = Room {
+        words: words - fewer_words,
+        bytes: bytes - fewer_bytes,
+    };
+    Some((room, refusal))
 }
 
-/// The images of a run, damaged ones and those at the limits, each in several
-/// rooms. The counts are by answer: printed, then refusals 1 to 12.
-pub fn compare(images: &[Vec<u8>], seed: u64) -> (Report, [u64; 13]) {
-    let mut report = Report::new("images in several rooms, refusals 1 to 12 and records");
-    let mut counts = [0; 13];
-    for bytes in inputs(images, seed) {
-        for (words, texts, wanted) in rooms(expected(&bytes)) {
-            let ours = Buffers::new(words, texts).print(&bytes);
-            counts[match wanted {
-                Answer::Printed(_) => 0,
-                Answer::Refused(number, _) => number as usize,
-            }] += 1;
-            if ours.as_ref() == Ok(&wanted) {
-                report.same();
-            } else {
-                report.differs(bytes.len(), || {
-                    let what = difference(&ours, &wanted);
-                    format!(
-                        "in {words} words and {texts} bytes: {what}, for\n{}",
-                        shown(&bytes)
-                    )
-                });
+impl Images {
+    /// Compares one image: its tests, the call where the room suffices, and one
+    /// where it does not.
+    pub fn compare(&mut self, number: usize, bytes: &[u8]) {
+        let elements = tested(bytes);
+        self.test(number, bytes, &elements);
+        // For nothing: what is refused leaves the room as it is.
+        let unused = enough(number, &Records::default());
+        match elements.map(|elements| print(&elements)) {
+            Ok(Printed::Items(records)) => {
+                let room = enough(number, &records);
+                self.call(number, bytes, room, Answer::Printed(&records));
+                if let Some((room, refusal)) = short(number, &records) {
+                    self.call(number, bytes, room, Answer::Refused(refusal, 0));
+                }
+            }
+            Ok(Printed::Panicked { element, .. }) => {
+                self.call(number, bytes, unused, Answer::Refused(10, element));
+            }
+            Err(fault) => {
+                let answer = Answer::Refused(fault.number, fault.element);
+                self.call(number, bytes, unused, answer);
             }
         }
     }
-    (report, counts)
+
+    fn test(&mut self, number: usize, bytes: &[u8], elements: &Result<Vec<Element>, Fault>) {
+        let length = |all: &[Element]| all.iter().map(|e| e.text.len()).sum();
+        let wanted = match elements {
+            Ok(elements) => [0, elements.len(), length(elements)],
+            Err(fault) => [fault.number as usize, fault.element, 0],
+        };
+        self.by_refusal[wanted[0]] += 1;
+        let ours = library::refusal(bytes).map(|n| n as usize);
+        if ours == wanted {
+            self.tests.same();
+            return;
+        }
+        self.tests.differs(bytes.len(), number, || {
+            format!("{ours:?}, and not {wanted:?}, for\n{}", shown(bytes))
+        });
+    }
+
+    fn call(&mut self, number: usize, bytes: &[u8], room: Room, wanted: Answer) {
+        self.by_answer[match wanted {
+            Answer::Printed(_) => 0,
+            Answer::Refused(number, _) => number as usize,
+        }] += 1;
+        match self.buffers.print(bytes, room, wanted) {
+            Ok(()) => self.answers.same(),
+            Err(fault) => self.answers.differs(bytes.len(), number, || {
+                format!("in {room:?}: {fault}, for\n{}", shown(bytes))
+            }),
+        }
+    }
+
+    /// Adds what another thread compared.
+    pub fn add(&mut self, other: Self) {
+        self.tests.add(other.tests);
+        self.answers.add(other.answers);
+        let add = |sum: &mut [u64], more: &[u64]| {
+            for (n, m) in sum.iter_mut().zip(more) {
+                *n += m;
+            }
+        };
+        add(&mut self.by_refusal, &other.by_refusal);
+        add(&mut self.by_answer, &other.by_answer);
+    }
+}
+
+/// Compares all images of a run and shows how fast. In the time are the making of
+/// the images, the original's printing and all comparisons.
+pub fn compare(inputs: &Inputs, seed: u64) -> Images {
+    let start = Instant::now();
+    let parts = threads::share(inputs.len(), |images: &mut Images, number| {
+        images.compare(number, &inputs.image(number));
+    });
+    let time = start.elapsed().as_secs_f64();
+    let mut sum = Images::default();
+    for part in parts {
+        sum.add(part);
+    }
+    let calls: u64 = sum.by_answer.iter().sum();
+    println!(
+        "seed {seed}: {} images, {calls} calls; on {} threads, with the making of the images and \
+         the original's printing, {:.0} images and {:.0} calls a second",
+        inputs.len(),
+        threads::cores(),
+        inputs.len() as f64 / time,
+        calls as f64 / time,
+    );
+    println!("images by refusal, from none to 9: {:?}", sum.by_refusal);
+    println!(
+        "calls by answer, printed and then refusals 1 to 12: {:?}",
+        sum.by_answer
+    );
+    sum
 }

@@ -1,6 +1,8 @@
 //! Safe calls of the library's exported functions. A slice is passed as its
 //! pointer and its length, an array as its pointer.
 
+use std::fmt;
+
 use oracle::records::Records;
 
 unsafe extern "C" {
@@ -27,14 +29,6 @@ unsafe extern "C" {
     ) -> u32;
 }
 
-/// The answer to an image: its records, or the number of a refusal and its
-/// element.
-#[derive(Debug, Clone, PartialEq, Eq)]
-pub enum Answer {
-    Printed(Records),
-    Refused(u32, usize),
-}
-
 /// The number of a refusal, its element and 0, or 0 with N and B.
 pub fn refusal(image: &[u8]) -> [u32; 3] {
     let mut values = [FILL; 2];
@@ -44,106 +38,208 @@ pub fn refusal(image: &[u8]) -> [u32; 3] {
     [number, values[0], values[1]]
 }
 
+/// What a call is to answer to an image: its records, or the number of a refusal
+/// and its element.
+#[derive(Clone, Copy)]
+pub enum Answer<'r> {
+    Printed(&'r Records),
+    Refused(u32, usize),
+}
+
+impl Answer<'_> {
+    /// The number and the five values of the call.
+    fn values(self) -> (u32, [u64; 5]) {
+        match self {
+            Answer::Printed(records) => {
+                let [a, b, c, d] = records.counts().map(|n| n as u64);
+                (0, [a, b, c, d, 0])
+            }
+            Answer::Refused(number, element) => (number, [0, 0, 0, 0, element as u64]),
+        }
+    }
+}
+
 /// What the buffers hold before a call.
 const FILL: u32 = 0xa5a5_a5a5;
+const BYTE: u8 = FILL as u8;
+/// So many cells behind those that are lent are looked at too.
+const BEHIND: usize = 8;
 
-/// Buffers that are lent to a call.
+/// Cells of which the first are lent to a call. Between the comparisons all hold
+/// the pattern.
+struct Cells<T> {
+    all: Vec<T>,
+    pattern: T,
+}
+
+impl<T: Copy + PartialEq + fmt::Debug> Cells<T> {
+    fn new(pattern: T) -> Self {
+        let all = vec![];
+        Self { all, pattern }
+    }
+
+    /// Where so many cells begin, to lend them.
+    fn lend(&mut self, lent: usize) -> *mut T {
+        let least = lent + BEHIND;
+        if self.all.len() < least {
+            self.all.resize(least, self.pattern);
+        }
+        self.all.as_mut_ptr()
+    }
+
+    /// Whether a call that was lent so many has written these and no others. Puts
+    /// the pattern back.
+    fn compare(&mut self, lent: usize, wanted: &[T]) -> Result<(), String> {
+        let pattern = self.pattern;
+        let (written, rest) = self.all[..lent + BEHIND].split_at_mut(wanted.len());
+        if written == wanted && rest.iter().all(|cell| *cell == pattern) {
+            written.fill(pattern);
+            return Ok(());
+        }
+        let wanted = |place| *wanted.get(place).unwrap_or(&pattern);
+        let mut cells = self.all.iter().enumerate();
+        let found = cells.find(|(place, cell)| **cell != wanted(*place));
+        let (place, cell) = found.expect("a difference");
+        let fault = format!("cell {place} is {cell:?}, and not {:?}", wanted(place));
+        self.all.fill(pattern);
+        Err(fault)
+    }
+}
+
+/// How much is lent to a call.
+#[derive(Debug, Clone, Copy)]
+pub struct Room {
+    pub words: usize,
+    pub bytes: usize,
+}
+
+impl Room {
+    /// What these records take.
+    pub fn of(records: &Records) -> Self {
+        Self {
+            words: records.records.as_flattened().len(),
+            bytes: records.texts.len(),
+        }
+    }
+}
+
+/// The buffers of the calls.
 pub struct Buffers {
-    records: Vec<u32>,
-    texts: Vec<u8>,
+    records: Cells<u32>,
+    texts: Cells<u8>,
+}
+
+impl Default for Buffers {
+    fn default() -> Self {
+        Self {
+            records: Cells::new(FILL),
+            texts: Cells::new(BYTE),
+        }
+    }
 }
 
 impl Buffers {
-    pub fn new(words: usize, texts: usize) -> Self {
-        Self {
-            records: vec![FILL; words],
-            texts: vec![FILL as u8; texts],
-        }
+    /// Whether a call in this room has written these records and nothing else.
+    fn compare(&mut self, room: Room, wanted: &Records) -> Result<(), String> {
+        let words = wanted.records.as_flattened();
+        let records = self.records.compare(room.words, words);
+        let texts = self.texts.compare(room.bytes, &wanted.texts);
+        records.map_err(|fault| format!("records: {fault}"))?;
+        texts.map_err(|fault| format!("texts: {fault}"))
     }
 
-    /// Whether anything past so many words and bytes has changed.
-    fn changed(&self, words: usize, texts: usize) -> bool {
-        self.records[words..].iter().any(|w| *w != FILL)
-            || self.texts[texts..].iter().any(|b| *b != FILL as u8)
-    }
-
-    /// The records that a call left, or what is wrong with them.
-    fn take(&self, answer: u32, counts: [u32; 4]) -> Result<Records, String> {
-        if answer != 0 {
-            return Err(format!("answered {answer}"));
-        }
-        let [records, texts, runs, marks] = counts.map(|n| n as usize);
-        if 3 * records > self.records.len() || texts > self.texts.len() {
-            return Err(format!("counts {counts:?} past the buffers"));
-        }
-        if self.changed(3 * records, texts) {
-            return Err("something past the counts has changed".to_owned());
-        }
-        let (records, texts) = (&self.records[..3 * records], &self.texts[..texts]);
-        let found = Records {
-            records: records.as_chunks().0.to_vec(),
-            texts: texts.to_vec(),
-        };
-        if (found.runs(), found.marks()) != (runs, marks) {
-            return Err(format!("runs and marks counted as {runs} and {marks}"));
-        }
-        Ok(found)
-    }
-
-    /// The records of one trivia or custom error in one of the three places.
-    pub fn comment(&mut self, kind: u16, text: &str, place: u32) -> Result<Records, String> {
+    /// Compares the records of one trivia or custom error in one of the three
+    /// places.
+    pub fn comment(
+        &mut self,
+        (kind, text, place): (u16, &str, u32),
+        room: Room,
+        wanted: &Records,
+    ) -> Result<(), String> {
         let mut counts = [FILL; 4];
-        // The pointers and lengths are those of slices that live until the call
-        // ends, and no two of them overlap.
-        let answer = unsafe {
+        // The pointers and lengths are those of slices, and of cells that are
+        // lent, which live until the call ends; no two of them overlap.
+        let number = unsafe {
             tungvesk_comment(
                 u32::from(kind),
                 place,
                 text.as_ptr(),
                 text.len(),
-                self.records.as_mut_ptr(),
-                self.records.len(),
-                self.texts.as_mut_ptr(),
-                self.texts.len(),
+                self.records.lend(room.words),
+                room.words,
+                self.texts.lend(room.bytes),
+                room.bytes,
                 &mut counts,
             )
         };
-        self.take(answer, counts)
+        let cells = self.compare(room, wanted);
+        let expected = wanted.counts().map(|n| n as u32);
+        if (number, counts) != (0, expected) {
+            return Err(format!(
+                "{number} with {counts:?}, and not 0 with {expected:?}"
+            ));
+        }
+        cells
     }
 
     /// The call by itself: the number and the five values.
-    pub fn call(&mut self, image: &[u8]) -> (u32, [u64; 5]) {
+    pub fn call(&mut self, image: &[u8], room: Room) -> (u32, [u64; 5]) {
         let mut values = [u64::from(FILL); 5];
-        // The pointers and lengths are those of slices that live until the call
-        // ends, and no two of them overlap.
+        // The pointers and lengths are those of slices, and of cells that are
+        // lent, which live until the call ends; no two of them overlap.
         let number = unsafe {
             tungvesk_print(
                 image.as_ptr(),
                 image.len(),
-                self.records.as_mut_ptr(),
-                self.records.len(),
-                self.texts.as_mut_ptr(),
-                self.texts.len(),
+                self.records.lend(room.words),
+                room.words,
+                self.texts.lend(room.bytes),
+                room.bytes,
                 &mut values,
             )
         };
         (number, values)
     }
 
-    /// The answer to an image, or what is wrong with it.
-    pub fn print(&mut self, image: &[u8]) -> Result<Answer, String> {
-        let (number, values) = self.call(image);
-        let [counts @ .., element] = values;
-        if number != 0 {
-            if self.changed(0, 0) || counts != [0; 4] {
-                return Err(format!("refused with {number}, and something was written"));
-            }
-            return Ok(Answer::Refused(number, element as usize));
+    /// Compares the answer to an image, and every cell.
+    pub fn print(&mut self, image: &[u8], room: Room, wanted: Answer) -> Result<(), String> {
+        let (number, values) = self.call(image, room);
+        let cells = match wanted {
+            Answer::Printed(records) => self.compare(room, records),
+            Answer::Refused(..) => self.compare(room, &Records::default()),
+        };
+        let expected = wanted.values();
+        if (number, values) != expected {
+            let (wanted, counts) = expected;
+            return Err(format!(
+                "{number} with {values:?}, and not {wanted} with {counts:?}"
+            ));
         }
-        if element != 0 {
-            return Err(format!("printed, with the element {element}"));
+        cells
+    }
+}
+
+#[cfg(test)]
+mod tests {
+    use super::*;
+
+    #[test]
+    fn every_cell_is_looked_at() {
+        let (lent, wanted) = (4, b"abc");
+        let mut cells = Cells::new(BYTE);
+        cells.lend(lent);
+        assert_eq!(cells.compare(lent, b""), Ok(()));
+        for place in 0..lent + BEHIND {
+            cells.all[..wanted.len()].copy_from_slice(wanted);
+            assert_eq!(cells.compare(lent, wanted), Ok(()));
+            cells.all[..wanted.len()].copy_from_slice(wanted);
+            cells.all[place] = b'x';
+            let fault = cells.compare(lent, wanted).expect_err("a fault");
+            assert!(
+                fault.starts_with(&format!("cell {place} is 120,")),
+                "{fault}"
+            );
+            assert_eq!(cells.compare(lent, b""), Ok(()), "the pattern is back");
         }
-        let records = self.take(number, counts.map(|n| n as u32))?;
-        Ok(Answer::Printed(records))
     }
 }

@@ -2,34 +2,38 @@
 //! process. It prints what was compared and the smallest input that differs.
 //! `compare --speed` times both instead.
 
-use std::{process::ExitCode, time::Instant};
+use std::process::ExitCode;
 
-use oracle::{
-    DEFAULT_COUNT, DEFAULT_SEED,
-    generate::{Options, generate},
-    image,
-    print::{deep, print},
-};
+use oracle::DEFAULT_SEED;
 
+mod blocks;
 #[cfg(library)]
 mod comments;
 #[cfg(library)]
 mod images;
 #[cfg(library)]
-mod library;
+mod inputs;
 #[cfg(library)]
-mod refusals;
+mod library;
 #[cfg_attr(not(library), allow(dead_code))]
 mod report;
 #[cfg(library)]
 mod speed;
+#[cfg(library)]
+mod threads;
 
 use report::Report;
+
+#[global_allocator]
+static BLOCKS: blocks::Blocks = blocks::Blocks;
+
+/// Enough for each sort of room to be tried twenty thousand times.
+const DEFAULT_COUNT: u64 = 100_000;
 
 fn main() -> ExitCode {
     #[cfg(library)]
     if std::env::args().skip(1).eq(["--speed"]) {
-        deep(speed::run);
+        oracle::print::deep(speed::run);
         return ExitCode::SUCCESS;
     }
     let mut words = std::env::args().skip(1).map(|w| w.parse::<u64>());
@@ -40,7 +44,7 @@ fn main() -> ExitCode {
         eprintln!("usage: compare [SEED [COUNT]] | compare --speed (with the library)");
         return ExitCode::FAILURE;
     };
-    let reports = deep(|| run(seed, count));
+    let reports = run(seed, count as usize);
     if reports.is_empty() {
         eprintln!(
             "nothing was compared: `rt staticlib exports` writes the library's archive, and \
@@ -59,36 +63,19 @@ fn main() -> ExitCode {
 }
 
 /// All comparisons over the first images of a seed.
-fn run(seed: u64, count: u64) -> Vec<Report> {
-    let images: Vec<_> = (0..count)
-        .map(|number| generate(seed, number, Options::default()).image)
-        .collect();
-    let start = Instant::now();
-    for bytes in &images {
-        print(&image::read(bytes).expect("a valid image"));
-    }
-    let rate = count as f64 / start.elapsed().as_secs_f64();
-    println!("seed {seed}: {count} images, printed by the original at {rate:.0} a second");
-    compare(&images, seed)
-}
-
 #[cfg(library)]
-fn compare(images: &[Vec<u8>], seed: u64) -> Vec<Report> {
-    let (refusals, counts) = refusals::compare(images, seed);
-    println!("images by refusal, from none to 9: {counts:?}");
-    let start = Instant::now();
-    let (printed, counts) = images::compare(images, seed);
-    let rate = counts.iter().sum::<u64>() as f64 / start.elapsed().as_secs_f64();
-    println!("calls by answer, printed and then refusals 1 to 12: {counts:?}, {rate:.0} a second");
+fn run(seed: u64, count: usize) -> Vec<Report> {
+    let inputs = inputs::Inputs::new(seed, count);
+    let images = images::compare(&inputs, seed);
     vec![
-        refusals,
-        printed,
-        comments::of_images(images),
+        images.tests,
+        images.answers,
+        comments::of_images(&inputs),
         comments::exhaustive(),
     ]
 }
 
 #[cfg(not(library))]
-fn compare(_images: &[Vec<u8>], _seed: u64) -> Vec<Report> {
+fn run(_seed: u64, _count: usize) -> Vec<Report> {
     vec![]
 }

@@ -7,7 +7,13 @@ pub struct Report {
     name: &'static str,
     compared: u64,
     differing: u64,
-    smallest: Option<(usize, String)>,
+    smallest: Option<Difference>,
+}
+
+struct Difference {
+    /// The length of the input, and among equally long ones its number.
+    rank: (usize, usize),
+    shown: String,
 }
 
 impl Report {
@@ -24,17 +30,24 @@ impl Report {
         self.compared += 1;
     }
 
-    /// An input of this size differs; `show` describes it.
-    pub fn differs(&mut self, size: usize, show: impl FnOnce() -> String) {
+    /// The input of this length and number differs; `show` describes it.
+    pub fn differs(&mut self, length: usize, number: usize, show: impl FnOnce() -> String) {
         self.compared += 1;
         self.differing += 1;
-        if self
-            .smallest
-            .as_ref()
-            .is_none_or(|(least, _)| size < *least)
-        {
-            self.smallest = Some((size, show()));
+        let rank = (length, number);
+        if self.smallest.as_ref().is_none_or(|d| rank < d.rank) {
+            let shown = show();
+            self.smallest = Some(Difference { rank, shown });
         }
+    }
+
+    /// Adds what another thread found. The sum does not depend on which inputs
+    /// were whose.
+    pub fn add(&mut self, other: Self) {
+        self.compared += other.compared;
+        self.differing += other.differing;
+        let both = [self.smallest.take(), other.smallest];
+        self.smallest = both.into_iter().flatten().min_by_key(|d| d.rank);
     }
 
     pub fn is_clean(&self) -> bool {
@@ -49,7 +62,7 @@ impl fmt::Display for Report {
             "{}: {} compared, {} differ",
             self.name, self.compared, self.differing
         )?;
-        if let Some((_, shown)) = &self.smallest {
+        if let Some(Difference { shown, .. }) = &self.smallest {
             writeln!(f, "the smallest that differs: {shown}")?;
         }
         Ok(())
@@ -66,11 +79,27 @@ mod tests {
         assert!(!report.is_clean(), "nothing was compared");
         report.same();
         assert!(report.is_clean());
-        for text in ["long", "ab", "cd", "abc"] {
-            report.differs(text.len(), || text.to_owned());
+        for (number, text) in ["long", "ab", "cd", "abc"].into_iter().enumerate() {
+            report.differs(text.len(), number, || text.to_owned());
         }
         assert!(!report.is_clean());
         let expected = "texts: 5 compared, 4 differ\nthe smallest that differs: ab\n";
         assert_eq!(report.to_string(), expected);
+    }
+
+    #[test]
+    fn a_sum_is_the_same_in_every_order() {
+        let texts = ["long", "ab", "cd", "abc"];
+        for first in 0..texts.len() {
+            let mut sum = Report::new("texts");
+            for turn in 0..texts.len() {
+                let number = (first + turn) % texts.len();
+                let mut report = Report::new("texts");
+                report.differs(texts[number].len(), number, || texts[number].to_owned());
+                sum.add(report);
+            }
+            let expected = "texts: 4 compared, 4 differ\nthe smallest that differs: ab\n";
+            assert_eq!(sum.to_string(), expected);
+        }
     }
 }

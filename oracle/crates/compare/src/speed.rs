@@ -11,7 +11,7 @@ use oracle::{
     print::{self, Printed},
 };
 
-use crate::library::{self, Answer, Buffers};
+use crate::library::{self, Answer, Buffers, Room};
 
 /// An odd number, so that there is a median.
 const ROUNDS: usize = 301;
@@ -21,6 +21,7 @@ struct Timed {
     name: &'static str,
     bytes: Vec<u8>,
     records: usize,
+    room: Room,
     buffers: Buffers,
     ours: Vec<Duration>,
     /// Of `ours`, the tests 1 to 9: timed by themselves.
@@ -52,13 +53,15 @@ fn images() -> Vec<Timed> {
         let Printed::Items(wanted) = print::print(&elements) else {
             panic!("{name}: the original stops");
         };
-        let records = wanted.records.len();
-        let mut buffers = Buffers::new(3 * records, wanted.texts.len());
-        assert_eq!(buffers.print(&bytes), Ok(Answer::Printed(wanted)), "{name}");
+        let room = Room::of(&wanted);
+        let mut buffers = Buffers::default();
+        let compared = buffers.print(&bytes, room, Answer::Printed(&wanted));
+        assert_eq!(compared, Ok(()), "{name}");
         Timed {
             name,
             bytes,
-            records,
+            records: wanted.records.len(),
+            room,
             buffers,
             ours: vec![],
             tests: vec![],
@@ -80,7 +83,7 @@ pub fn run() {
     for _ in 0..ROUNDS {
         for timed in &mut images {
             let start = Instant::now();
-            let (number, _) = timed.buffers.call(&timed.bytes);
+            let (number, _) = timed.buffers.call(&timed.bytes, timed.room);
             timed.ours.push(start.elapsed());
             assert_eq!(number, 0, "{}", timed.name);
             let start = Instant::now();

@@ -1,0 +1,55 @@
+//! The images of a run, by number.
+
+use oracle::{
+    describe,
+    generate::{Options, edges, generate},
+    image,
+};
+
+/// So many images of a seed, as many of the next seed of which half are damaged,
+/// and those at the limits.
+pub struct Inputs {
+    seed: u64,
+    count: usize,
+    at_limits: Vec<Vec<u8>>,
+}
+
+impl Inputs {
+    pub fn new(seed: u64, count: usize) -> Self {
+        Self {
+            seed,
+            count,
+            at_limits: edges::edges().into_iter().map(|(_, bytes)| bytes).collect(),
+        }
+    }
+
+    pub fn len(&self) -> usize {
+        2 * self.count + self.at_limits.len()
+    }
+
+    /// How many of them, from the first, are images as they were generated.
+    pub fn undamaged(&self) -> usize {
+        self.count
+    }
+
+    pub fn image(&self, number: usize) -> Vec<u8> {
+        if let Some(edge) = number.checked_sub(2 * self.count) {
+            return self.at_limits[edge].clone();
+        }
+        let damaged = number >= self.count;
+        let options = Options {
+            damaged,
+            ..Options::default()
+        };
+        let seed = self.seed + u64::from(damaged);
+        generate(seed, (number % self.count) as u64, options).image
+    }
+}
+
+/// An image as text, or its bytes where it is no tree.
+pub fn shown(bytes: &[u8]) -> String {
+    image::read(bytes).map_or_else(
+        |_| format!("the bytes {bytes:?}"),
+        |elements| describe::write(&elements),
+    )
+}
