@@ -1,56 +1,69 @@
-// The call from a tree image to print items.
+// The calls from a tree image to print items and to their listing.
 use formatter::Answer;
+use formatter::ListAnswer;
+use formatter::refusal::Refusal;
+use formatter::refusal::number_of;
 use items::Count;
 ghost use mathlib.Core.Path.{_≡_};
+ghost use mathlib.Core.Option.{none, some};
 ghost use lib.Seq.{sets};
-ghost use Rattle.formatter.specs.Answer.{answer, recordsAfter, textsAfter};
+ghost use Rattle.formatter.specs.Answer.{answer, recordsAfter, textsAfter, listingAfter};
 ghost use Rattle.formatter.specs.Answer.{refused as away};
-ghost use Rattle.formatter.specs.Told.{told};
-ghost use Rattle.exports.specs.Print.{number, values, Reports};
+ghost use Rattle.formatter.specs.Told.{numberOf, elementOf, told, toldList};
+ghost use Rattle.exports.specs.Print.{number, values, valuesListed, Reports};
 
-// A refusal of document 01 with its element, or 0 with the counts.
+// A refusal of document 01 with its element, or 0 with the counts and the bytes of the listing.
 struct Report {
     number: u32,
     counts: Count,
+    bytes: usize,
     element: usize,
 }
 
 // A refusal, with no counts.
-fn refused(n: u32, e: usize) -> Report
-    ensures { λ r. ⌜ Reports r (away n e) ⌝ }
+fn refused(f: Refusal) -> Report
+    ensures { λ r. ⌜ Reports r (away (numberOf f) (elementOf f)) ⌝ }
 {
+    let n = number_of(f);
     Report {
-        number: n,
+        number: n.number,
         counts: Count {
             records: 0,
             texts: 0,
             runs: 0,
             marks: 0,
+            lines: 0,
         },
-        element: e,
+        bytes: 0,
+        element: n.element,
     }
 }
 
-// Document 01's number and values for each case.
+// What a printing answers.
 fn report_of(a: Answer) -> Report
     ensures { λ r. ⌜ Reports r (told a) ⌝ }
 {
     match a {
-        Answer::WrongLength => refused(1, 0),
-        Answer::OutOfLimits => refused(2, 0),
-        Answer::UnknownKind(e) => refused(3, e.0 as usize),
-        Answer::Misplaced(e) => refused(4, e.0 as usize),
-        Answer::WrongSize(e) => refused(5, e.0 as usize),
-        Answer::NotUtf8(e) => refused(6, e.0 as usize),
-        Answer::StringBlock(e) => refused(7, e.0 as usize),
-        Answer::Misformed(e) => refused(8, e.0 as usize),
-        Answer::Nameless(e) => refused(9, e.0 as usize),
-        Answer::Stopped(e) => refused(10, e.0),
-        Answer::RecordsTooShort => refused(11, 0),
-        Answer::TextsTooShort => refused(12, 0),
+        Answer::Refused(f) => refused(f),
         Answer::Printed(c) => Report {
             number: 0,
             counts: c,
+            bytes: 0,
+            element: 0,
+        },
+    }
+}
+
+// What a printing with its listing answers.
+fn report_listed(a: ListAnswer) -> Report
+    ensures { λ r. ⌜ Reports r (toldList a) ⌝ }
+{
+    match a {
+        ListAnswer::Refused(f) => refused(f),
+        ListAnswer::Listed { counts, bytes } => Report {
+            number: 0,
+            counts,
+            bytes,
             element: 0,
         },
     }
@@ -64,10 +77,10 @@ pub extern "C" fn tungvesk_print(
     texts: &mut [u8],
     counts: &mut [u64; 5],
 ) -> u32
-    ensures { λ r. ⌜ r ≡ number (answer (now (image .entry)) (now (records .entry)) (now (texts .entry))) ⌝ }
-    ensures { λ _. ⌜ now (counts .exit) ≡ sets (now (counts .entry)) 0 (values (answer (now (image .entry)) (now (records .entry)) (now (texts .entry)))) ⌝ }
-    ensures { λ _. ⌜ now (records .exit) ≡ recordsAfter (now (image .entry)) (now (records .entry)) (now (texts .entry)) ⌝ }
-    ensures { λ _. ⌜ now (texts .exit) ≡ textsAfter (now (image .entry)) (now (records .entry)) (now (texts .entry)) ⌝ }
+    ensures { λ r. ⌜ r ≡ number (answer (now (image .entry)) (now (records .entry)) (now (texts .entry)) none) ⌝ }
+    ensures { λ _. ⌜ now (counts .exit) ≡ sets (now (counts .entry)) 0 (values (answer (now (image .entry)) (now (records .entry)) (now (texts .entry)) none)) ⌝ }
+    ensures { λ _. ⌜ now (records .exit) ≡ recordsAfter (now (image .entry)) (now (records .entry)) (now (texts .entry)) none ⌝ }
+    ensures { λ _. ⌜ now (texts .exit) ≡ textsAfter (now (image .entry)) (now (records .entry)) (now (texts .entry)) none ⌝ }
 {
     let r = report_of(formatter::print_items(image, records, texts));
     counts[0] = r.counts.records as u64;
@@ -76,4 +89,29 @@ pub extern "C" fn tungvesk_print(
     counts[3] = r.counts.marks as u64;
     counts[4] = r.element as u64;
     r.number
+}
+
+// The same with the listing, whose length stands behind the four counts.
+#[no_mangle]
+pub extern "C" fn tungvesk_list(
+    image: &[u8],
+    records: &mut [u32],
+    texts: &mut [u8],
+    listing: &mut [u8],
+    counts: &mut [u64; 6],
+) -> u32
+    ensures { λ r. ⌜ r ≡ number (answer (now (image .entry)) (now (records .entry)) (now (texts .entry)) (some (now (listing .entry)))) ⌝ }
+    ensures { λ _. ⌜ now (counts .exit) ≡ sets (now (counts .entry)) 0 (valuesListed (answer (now (image .entry)) (now (records .entry)) (now (texts .entry)) (some (now (listing .entry))))) ⌝ }
+    ensures { λ _. ⌜ now (records .exit) ≡ recordsAfter (now (image .entry)) (now (records .entry)) (now (texts .entry)) (some (now (listing .entry))) ⌝ }
+    ensures { λ _. ⌜ now (texts .exit) ≡ textsAfter (now (image .entry)) (now (records .entry)) (now (texts .entry)) (some (now (listing .entry))) ⌝ }
+    ensures { λ _. ⌜ now (listing .exit) ≡ listingAfter (now (image .entry)) (now (records .entry)) (now (texts .entry)) (now (listing .entry)) ⌝ }
+{
+    let l = report_listed(formatter::list_items(image, records, texts, listing));
+    counts[0] = l.counts.records as u64;
+    counts[1] = l.counts.texts as u64;
+    counts[2] = l.counts.runs as u64;
+    counts[3] = l.counts.marks as u64;
+    counts[4] = l.bytes as u64;
+    counts[5] = l.element as u64;
+    l.number
 }

@@ -53,7 +53,8 @@ pub fn print_items(image: &[u8], records: &mut [u32], texts: &mut [u8]) -> Answe
     let Answer::Printed(_) = judged else {
         return judged;
     };
-    print_source(records, texts, image, &table, items::start());
+    let start = items::start();
+    print_source(records, texts, image, &table, start);
     judged
 }
 

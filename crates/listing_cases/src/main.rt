@@ -169,7 +169,7 @@ fn print(out: &[u8], n: usize) {
 fn print_listing(records: &[u32], texts: &[u8], c: Count)
     requires { ⌜ Told (now records) (now texts) c ⌝ }
 {
-    let n = listing::listing_length(records, texts, c);
+    let n = listing::listing_length(c);
     let mut out = io::buffer();
     listing::write_listing(records, texts, c, &mut out);
     print(&out, n);
@@ -192,6 +192,7 @@ fn main() {
         texts: 5,
         runs: 1,
         marks: 2,
+        lines: 310,
     };
     print_listing(&records, &texts, c);
     let every = EVERY_KIND;
@@ -201,6 +202,7 @@ fn main() {
         texts: 12,
         runs: 1,
         marks: 1,
+        lines: 236,
     };
     print_listing(&every, &twelve, d);
     print_beginning(&records, &texts, c);

@@ -1,6 +1,7 @@
 use borrow.Author.Needs.{needs}
 use mathlib.Core.Path.{refl}
 use Rattle.text.specs.Basic.{sum}
+use Rattle.items.specs.Lines.{digits, decimal, described, recordLines}
 use Rattle.items.specs.Records.{bytes, decoded, itemOf}
 use Rattle.listing.specs.Told.{told}
 use Rattle.listing.specs.Examples.{oneItems}
@@ -9,7 +10,7 @@ use Rattle.listing_cases.proofs.main.Statement.{statement}
 use Rattle.listing_cases.proofs.main.Tie as tie
 
 pub main-spec : {M : Type 1} → statement M
-unfolding bytes decoded itemOf sum
+unfolding bytes decoded itemOf sum recordLines described digits decimal
 main-spec =
     tie.close
     (tie.spec
