@@ -1,7 +1,7 @@
 //! Whole images: refusals 1 to 12, the records with their four counts, and
 //! every cell of the lent buffers.
 
-use std::time::Instant;
+use std::time::{Duration, Instant};
 
 use oracle::{
     image::{self, Element, Fault},
@@ -149,26 +149,40 @@ impl Images {
     }
 }
 
-/// Compares all images of a run and shows how fast. In the time are the making of
-/// the images, the original's printing and all comparisons.
+/// So many images are made before they are compared.
+const ROUND: usize = 10_000;
+
+/// Compares all images of a run and shows how fast: in the time are the original's
+/// printing and all comparisons. The making of the images is timed by itself.
 pub fn compare(inputs: &Inputs, seed: u64) -> Images {
-    let start = Instant::now();
-    let parts = threads::share(inputs.len(), |images: &mut Images, number| {
-        images.compare(number, &inputs.image(number));
-    });
-    let time = start.elapsed().as_secs_f64();
+    let (mut making, mut comparing) = (Duration::ZERO, Duration::ZERO);
     let mut sum = Images::default();
-    for part in parts {
-        sum.add(part);
+    for first in (0..inputs.len()).step_by(ROUND) {
+        let start = Instant::now();
+        let count = ROUND.min(inputs.len() - first);
+        let parts = threads::share(count, |made: &mut Vec<_>, n| {
+            made.push((first + n, inputs.image(first + n)));
+        });
+        let made: Vec<(usize, Vec<u8>)> = parts.into_iter().flatten().collect();
+        making += start.elapsed();
+        let start = Instant::now();
+        let parts = threads::share(count, |images: &mut Images, n| {
+            let (number, bytes) = &made[n];
+            images.compare(*number, bytes);
+        });
+        comparing += start.elapsed();
+        parts.into_iter().for_each(|part| sum.add(part));
     }
     let calls: u64 = sum.by_answer.iter().sum();
+    let rate = |count: usize, time: Duration| count as f64 / time.as_secs_f64();
     println!(
-        "seed {seed}: {} images, {calls} calls; on {} threads, with the making of the images and \
-         the original's printing, {:.0} images and {:.0} calls a second",
+        "seed {seed}: {} images, {calls} calls; on {} threads, with the original's printing, {:.0} \
+         images and {:.0} calls a second; with the making of the images {:.0} images",
         inputs.len(),
         threads::cores(),
-        inputs.len() as f64 / time,
-        calls as f64 / time,
+        rate(inputs.len(), comparing),
+        rate(calls as usize, comparing),
+        rate(inputs.len(), making + comparing),
     );
     println!("images by refusal, from none to 9: {:?}", sum.by_refusal);
     println!(
