@@ -10,6 +10,8 @@ const WORDS: usize = 3 * 5_000;
 
 const TEXT_BYTES: usize = 32_000;
 
+const LISTING_BYTES: usize = 65_536;
+
 // The number of a refusal, or 0 for a listing, and how many bytes are printed.
 pub struct Response {
     pub number: u32,
@@ -17,7 +19,7 @@ pub struct Response {
 }
 
 // Writes the listing of an image, or the line of its refusal, to the front of a buffer.
-pub fn respond(image: &[u8], out: &mut [u8; 65_536]) -> Response
+pub fn respond(image: &[u8], out: &mut [u8; LISTING_BYTES]) -> Response
     ensures { λ r. ⌜ Responds (now (image .entry)) (now (out .entry)) (now (out .exit)) r ⌝ }
 {
     let mut records = [0u32; WORDS];
