@@ -13,6 +13,7 @@ use cases::byte;
 use cases::field;
 use cases::field_end;
 use cases::line;
+use cases::load;
 use sequence::LONGEST;
 use sequence::spell;
 ghost use Prim.Native.Nat.{_+_, _<_, _≤_, min};
@@ -178,20 +179,6 @@ fn replay(v: &[u8]) {
     line(b"sample", a.seen);
     line(b"  sequences that agree", a.right);
     line(b"  before the first that does not", a.before);
-}
-
-// Reads a file into a buffer and says how long it is.
-fn load(path: &[u8], buffer: &mut [u8]) -> usize
-    ensures { λ r. ⌜ r ≤ length (now (buffer .exit)) ⌝ }
-{
-    let fd = os::open_read(path);
-    if fd < 0 {
-        os::fail(path);
-        return 0;
-    }
-    let n = io::read_full(fd, buffer);
-    libc::close(fd);
-    n
 }
 
 fn main() {

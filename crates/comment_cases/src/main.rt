@@ -3,6 +3,7 @@ mod large;
 mod replay;
 
 use cases::line;
+use cases::load;
 use replay::Agreement;
 use replay::part;
 ghost use mathlib.Core.Path.{_≡_};
@@ -97,23 +98,13 @@ fn replay_all(records: &mut [u32], texts: &mut [u8], v: &[u8]) {
     replay_errors(records, texts, v);
 }
 
-// Reads a file as far as there is room, and says how many bytes that are.
-fn read(name: &[u8], file: &mut [u8]) -> usize {
-    let fd = os::open_read(name);
-    if fd < 0 {
-        os::fail(name);
-        return 0;
-    }
-    io::read_full(fd, file)
-}
-
 fn replay_vectors(records: &mut [u32], texts: &mut [u8], file: &mut [u8]) {
-    let n = read(b"vectors.bin", file);
+    let n = load(b"vectors.bin", file);
     replay_all(records, texts, part(file, 0, n));
 }
 
 fn replay_large(records: &mut [u32], texts: &mut [u8], file: &mut [u8]) {
-    let n = read(b"large.bin", file);
+    let n = load(b"large.bin", file);
     report(
         b"large tokens",
         large::replayed(records, texts, part(file, 0, n)),

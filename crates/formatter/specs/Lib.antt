@@ -13,4 +13,5 @@ pub mod Answer
 pub mod Told
 pub mod Answered
 pub mod Calls
+pub mod Program
 pub mod Examples

@@ -1,4 +1,5 @@
 // The calls from a tree image to print items and to their listing.
+pub mod program;
 pub mod refusal;
 
 use items::Count;

@@ -52,6 +52,11 @@ pub decimal-short : (n : ℕ) → n < 2 ^ 32 → length (decimal n) ≤ 10
 unfolding decimal
 decimal-short n h = digits-short 9 n n (omega arith)
 
+-- one of 64 bits at most twenty
+pub decimal-wide : (n : ℕ) → n < 2 ^ 64 → length (decimal n) ≤ 20
+unfolding decimal
+decimal-wide n h = digits-short 19 n n (omega arith)
+
 pub one-long : (n : ℕ) → n < 10 → length (decimal n) ≡ 1
 one-long n h = ap length (one-digit n (48 + n) h refl)
 

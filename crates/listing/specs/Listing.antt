@@ -3,7 +3,7 @@ use mathlib.Core.List.{List, [], _∷_, _++_}
 use Prim.Native.Nat.{ℕ}
 use Rattle.items.specs.Item.{Item}
 use Rattle.items.specs.Records.{Counts, countsOf}
-use Rattle.items.specs.Lines.{field, recordLines}
+use Rattle.items.specs.Lines.{decimal, field, recordLines}
 
 -- 'First line: the four counts (`texts` is text bytes)'
 unfoldable pub headLine : Counts → List ℕ
@@ -12,3 +12,7 @@ headLine c = field "records" (c .records) ++ (32 ∷ (field "texts" (c .texts) +
 -- the listing of items
 unfoldable pub listing : List Item → List ℕ
 listing xs = headLine (countsOf xs) ++ recordLines 0 xs
+
+-- 'or one line with `refused`, number and element'
+unfoldable pub refusedLine : ℕ → ℕ → List ℕ
+refusedLine n e = field "refused" n ++ (32 ∷ (decimal e ++ (10 ∷ [])))

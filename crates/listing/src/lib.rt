@@ -18,7 +18,7 @@ ghost use lib.ListN.{length};
 ghost use Rattle.text.specs.Basic.{ascii};
 ghost use Rattle.items.specs.Lines.{decimal, field};
 ghost use Rattle.items.specs.Names.{nameAt};
-ghost use Rattle.listing.specs.Listing.{headLine, listing};
+ghost use Rattle.listing.specs.Listing.{headLine, listing, refusedLine};
 ghost use Rattle.listing.specs.Writes.{page, Writes, Room};
 ghost use Rattle.listing.specs.Shown.{storedText, shown, Readable, Line, lineAt, linesFrom};
 ghost use Rattle.listing.specs.Told.{itemsIn, Told};
@@ -47,7 +47,7 @@ fn put_bytes(out: &mut [u8], at: usize, s: &[u8]) -> usize
 }
 
 // A digit as a byte.
-fn digit(n: u32) -> u8
+fn digit(n: usize) -> u8
     requires { ⌜ n < 10 ⌝ }
     ensures { λ r. ⌜ r ≡ 48 + n ⌝ }
 {
@@ -55,7 +55,7 @@ fn digit(n: u32) -> u8
 }
 
 // Writes a number in decimal.
-fn put_decimal(out: &mut [u8], at: usize, n: u32) -> usize
+fn put_decimal(out: &mut [u8], at: usize, n: usize) -> usize
     requires { ⌜ Room (decimal n) at ⌝ }
     ensures { λ r. ⌜ Writes (decimal n) (page (now (out .entry)) at) (page (now (out .exit)) r) ⌝ }
 {
@@ -87,7 +87,7 @@ fn put_field(out: &mut [u8], at: usize, w: u32, n: u32) -> usize
 {
     let named = put_name(out, at, w);
     let parted = put_byte(out, named, b' ');
-    put_decimal(out, parted, n)
+    put_decimal(out, parted, n as usize)
 }
 
 // Writes a text by its offset and length.
@@ -128,7 +128,7 @@ fn put_line(out: &mut [u8], at: usize, records: &[u32], texts: &[u8], i: u32) ->
     ensures { λ r. ⌜ Writes (lineAt (now (records .entry)) (now (texts .entry)) i) (page (now (out .entry)) at) (page (now (out .exit)) r) ⌝ }
 {
     let word = 3 * (i as usize);
-    let told = put_decimal(out, at, i);
+    let told = put_decimal(out, at, i as usize);
     let parted = put_byte(out, told, b' ');
     let shown = put_item(
         out,
@@ -175,6 +175,17 @@ pub fn write_listing(records: &[u32], texts: &[u8], c: Count, out: &mut [u8]) ->
 {
     let head = put_head(out, 0, c);
     put_lines(out, head, records, texts, c.records)
+}
+
+// Writes the line of a refusal, as far as there is room, and gives its length.
+pub fn write_refused(number: u32, element: usize, out: &mut [u8]) -> usize
+    ensures { λ r. ⌜ Writes (refusedLine number element) (page (now (out .entry)) 0) (page (now (out .exit)) r) ⌝ }
+{
+    let named = put_bytes(out, 0, b"refused ");
+    let numbered = put_decimal(out, named, number as usize);
+    let parted = put_byte(out, numbered, b' ');
+    let told = put_decimal(out, parted, element);
+    put_byte(out, told, b'\n')
 }
 
 // The length of the line of counts.

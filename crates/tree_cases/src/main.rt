@@ -4,6 +4,7 @@ use cases::byte;
 use cases::field;
 use cases::field_end;
 use cases::line;
+use cases::load;
 use cases::number;
 use tree::Found;
 use tree::Tested;
@@ -295,20 +296,6 @@ fn replay_all(v: &[u8]) {
     replay(v, NTH, b"n-th parts");
     replay(v, LAST, b"last parts");
     replay(v, PLUS, b"plus signs");
-}
-
-// Reads a file into a buffer and says how long it is.
-fn load(path: &[u8], buffer: &mut [u8]) -> usize
-    ensures { λ r. ⌜ r ≤ length (now (buffer .exit)) ⌝ }
-{
-    let fd = os::open_read(path);
-    if fd < 0 {
-        os::fail(path);
-        return 0;
-    }
-    let n = io::read_full(fd, buffer);
-    libc::close(fd);
-    n
 }
 
 fn main() {

@@ -1,0 +1,68 @@
+-- What the program prints, from the answers of its callees.
+use mathlib.Core.Path.{_≡_, refl, sym, ap, _∙_}
+use mathlib.Core.Option.{some}
+use mathlib.Core.List.{List}
+use Prim.Native.Nat.{ℕ, _*_, _<_, _^_}
+use native.Mathlib.Omega.{arith}
+use lib.ListN.{length, length-replicate, length-append}
+use Rattle.items.specs.Fitting.{store-overlaid}
+use Rattle.listing.specs.Listing.{listing, refusedLine}
+use Rattle.listing.specs.Refused.{refused-short}
+use Rattle.listing.specs.Writes.{page, Writes, kept}
+use Rattle.formatter.specs.declared.refusal.Refusal.{Refusal}
+use Rattle.formatter.specs.declared.refusal.Numbered.{Numbered}
+use Rattle.formatter.specs.declared.ListAnswer.{ListAnswer}
+use Rattle.formatter.specs.declared.ListAnswer.the-variants.{Listed, Refused}
+use Rattle.items.specs.Records.{Counts}
+use Rattle.formatter.specs.Answer.{Verdict, turnedAway, printed, verdict, withRoom, withListing, ruling, answerOf, answer, bufferOf, listingAfter}
+use Rattle.formatter.specs.Told.{numberOf, elementOf, toldList}
+use Rattle.formatter.specs.Program.{blank, judged, printedOf, response, numberIn, Responds}
+
+blank-long : (n : ℕ) → length (blank n) ≡ n
+unfolding blank
+blank-long n = length-replicate n 0
+
+module _ (image rs ts ls : List ℕ) (a : length rs ≡ 3 * 5000) (b : length ts ≡ 32000) (c : length ls ≡ 65536) where
+  -- of buffers only the lengths are judged
+  as-judged : judged image ≡ ruling image rs ts (some ls)
+  unfolding judged ruling withListing
+  as-judged = rw (blank-long, blank-long, a, b) (go (withRoom (3 * 5000) 32000 (verdict image)))
+    where
+      go : (v : Verdict) → withListing (some (blank 65536)) v ≡ withListing (some ls) v
+      go (turnedAway n e) = refl
+      go (printed xs) = rw (blank-long, c)
+
+  pub responds-listed : {out : List ℕ} {t : ListAnswer} {d : Counts} {n : ℕ} → t ≡ Listed d n → toldList t ≡ answer image rs ts (some ls) → out ≡ listingAfter image rs ts ls
+      → Responds image ls out (record { number = 0; bytes = n })
+  unfolding answer answerOf listingAfter bufferOf response printedOf numberIn
+  responds-listed {out} {t} {d} {n} i j k = go (ruling image rs ts (some ls)) as-judged (ap toldList (sym i) ∙ j) k
+    where
+      go : (v : Verdict) → judged image ≡ v → toldList (Listed d n) ≡ answerOf (some ls) v → out ≡ bufferOf listing v ls → Responds image ls out (record { number = 0; bytes = n })
+      go (turnedAway m e) q h w = absurd (let z : _≡_ {A = ℕ} 0 1 = cc in omega arith)
+      go (printed xs) q h w =
+          let l : n ≡ length (listing xs) = cc in
+          record {
+            number = rw q;
+            counted = rw q l;
+            written = rw q w;
+            inside = rw (w, length-append) (omega arith);
+          }
+
+  pub responds-refused : {mid out : List ℕ} {t : ListAnswer} {f : Refusal} {n : Numbered} {m : ℕ} → t ≡ Refused f → toldList t ≡ answer image rs ts (some ls) → mid ≡ listingAfter image rs ts ls
+      → n ≡ record { number = numberOf f; element = elementOf f } → n .number < 2 ^ 64 → n .element < 2 ^ 64 → Writes (refusedLine (n .number) (n .element)) (page mid 0) (page out m)
+      → Responds image ls out (record { number = n .number; bytes = m })
+  unfolding answer answerOf listingAfter bufferOf response printedOf numberIn
+  responds-refused {mid} {out} {t} {f} {n} {m} i j k o p q w = go (ruling image rs ts (some ls)) as-judged (ap toldList (sym i) ∙ j) k
+    where
+      go : (v : Verdict) → judged image ≡ v → toldList (Refused f) ≡ answerOf (some ls) v → mid ≡ bufferOf listing v ls → Responds image ls out (record { number = n .number; bytes = m })
+      go (turnedAway x e) g h z =
+          let s : n .number ≡ x = cc in
+          let u : n .element ≡ e = cc in
+          let y = refused-short (n .number) (n .element) p q in
+          record {
+            number = rw g s;
+            counted = rw (g, ← s, ← u) (omega (arith, w .counted));
+            written = rw (g, ← s, ← u) (w .stored ∙ rw z (store-overlaid _ ls (omega arith)));
+            inside = omega (arith, w .counted, kept w, ap length z);
+          }
+      go (printed xs) g h z = absurd (let z : _≡_ {A = ℕ} 0 1 = cc in omega arith)

@@ -1,0 +1,45 @@
+-- What the program prints: 'A program reads a tree image from standard input, with room for 5,000 records, 32,000 text bytes and 65,536 listing bytes, and prints the
+-- listing, or one line with `refused`, number and element.'
+use mathlib.Core.Path.{_≡_, sym}
+use mathlib.Core.Option.{some}
+use mathlib.Core.List.{List}
+use Prim.Native.Nat.{ℕ, _*_, _≤_}
+use lib.ListN.{length, take, drop, replicate}
+use lib.Seq.{take-at}
+use Rattle.items.specs.Records.{overlaid}
+use Rattle.listing.specs.Listing.{listing, refusedLine}
+use Rattle.formatter.specs.declared.program.Response.{Response}
+use Rattle.formatter.specs.Answer.{Verdict, turnedAway, printed, ruling}
+
+-- a buffer of n cells
+unfoldable pub blank : ℕ → List ℕ
+blank n = replicate n 0
+
+-- the thirteen tests, with the program's room
+unfoldable pub judged : List ℕ → Verdict
+judged image = ruling image (blank (3 * 5000)) (blank 32000) (some (blank 65536))
+
+-- 'the listing, or one line with `refused`, number and element'
+unfoldable pub printedOf : Verdict → List ℕ
+printedOf (turnedAway n e) = refusedLine n e
+printedOf (printed xs) = listing xs
+
+-- the bytes that are printed of an image
+unfoldable pub response : List ℕ → List ℕ
+response image = printedOf (judged image)
+
+-- the number of a refusal; 0 where there is none
+unfoldable pub numberIn : Verdict → ℕ
+numberIn (turnedAway n e) = n
+numberIn (printed xs) = 0
+
+-- The buffer begins with what is printed, and goes on as it was.
+pub record Responds (image entry exit : List ℕ) (r : Response) : Type 0 where
+  pub number : r .number ≡ numberIn (judged image)
+  pub counted : r .bytes ≡ length (response image)
+  pub written : exit ≡ overlaid (response image) entry
+  pub inside : r .bytes ≤ length exit
+
+-- the bytes of the front are those that are printed
+pub front : {image entry exit : List ℕ} {r : Response} → Responds image entry exit r → take (r .bytes) exit ≡ response image
+front {image} {entry} h = rw (h .written) (take-at (response image) (drop (length (response image)) entry) _ (sym (h .counted)))

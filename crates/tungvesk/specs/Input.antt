@@ -1,0 +1,13 @@
+-- What reading says.
+use mathlib.Core.Path.{_≡_}
+use Prim.Native.Nat.{ℕ}
+use Rattle.tungvesk.specs.declared.Input.{Input}
+use Rattle.tungvesk.specs.declared.Input.the-variants.{Bytes, Failed}
+
+-- how many bytes were read
+abbrev pub bytesOf : Input → ℕ
+bytesOf (Bytes n) = n
+bytesOf Failed = 0
+
+pub bytes-of : {r : Input} {n : ℕ} → r ≡ Bytes n → bytesOf r ≡ n
+bytes-of e = rw e

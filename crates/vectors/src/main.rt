@@ -1,0 +1,80 @@
+// Replays the images of data/vectors.bin through what the program prints, and prints how many of the answers that the file has agree.
+use cases::line;
+use cases::load;
+use cases::long_field;
+use cases::long_field_end;
+use formatter::program::respond;
+use libc::STDOUT_FILENO;
+ghost use Prim.Native.Nat.{_≤_};
+ghost use lib.ListN.{length};
+ghost use Rattle.vectors.specs.Replies.{Replies};
+
+// Room for the file.
+const FILE: usize = 524_288;
+
+// An answer is counted by its number: 0 for a listing, that of a refusal, and one behind them if it is not the one in the file.
+const REFUSALS: usize = 13;
+
+const DIFFERENT: usize = REFUSALS + 1;
+
+const ANSWERS: usize = REFUSALS + 2;
+
+// The number of the answer for an image, if it is the expected one byte for byte.
+fn replied(image: &[u8], want: &[u8]) -> usize
+    ensures { λ r. ⌜ Replies (now (image .entry)) (now (want .entry)) r ⌝ }
+{
+    let mut out = io::large_buffer();
+    let r = respond(image, &mut out);
+    let n = r.bytes;
+    if check::same(&out[..n], want) {
+        r.number as usize
+    } else {
+        DIFFERENT
+    }
+}
+
+fn count(counts: &mut [u64], k: usize) {
+    if k < counts.len() {
+        counts[k] = std::num::wrapping_add_u64(counts[k], 1);
+    }
+}
+
+// Counts the answers for all images of a file, and says how many images there are.
+fn replay(v: &[u8], counts: &mut [u64]) -> u64 {
+    let mut images: u64 = 0;
+    let mut at = 0;
+    while at < v.len() {
+        let want = long_field_end(v, at);
+        count(counts, replied(long_field(v, at), long_field(v, want)));
+        images = std::num::wrapping_add_u64(images, 1);
+        at = long_field_end(v, want);
+    }
+    images
+}
+
+fn counted(counts: &[u64], k: usize) -> u64 {
+    if k < counts.len() { counts[k] } else { 0 }
+}
+
+fn report_refusal(k: usize, n: u64) {
+    io::write_all(STDOUT_FILENO, b"refused ");
+    io::print_decimal(STDOUT_FILENO, k as u64);
+    line(b"", n);
+}
+
+// Prints a line for each number of a refusal.
+fn report_refusals(counts: &[u64]) {
+    for k in 1..=REFUSALS {
+        report_refusal(k, counted(counts, k));
+    }
+}
+
+fn main() {
+    let mut file = [0u8; FILE];
+    let n = load(b"vectors.bin", &mut file);
+    let mut counts = [0u64; ANSWERS];
+    line(b"images", replay(&file[..n], &mut counts));
+    line(b"listings", counted(&counts, 0));
+    report_refusals(&counts);
+    line(b"differ", counted(&counts, DIFFERENT));
+}
