@@ -8,3 +8,8 @@ pub mod Ending
 pub mod Filling
 pub mod Classes
 pub mod Looking
+pub mod Numbers
+pub mod Lengths
+pub mod Stepping
+pub mod Reading
+pub mod Answers

@@ -8,6 +8,11 @@ use lib.ListN.{drop, take, length}
 use lib.Seq.{drop-drop, getD-drop}
 use Rattle.text.specs.Basic.{sum}
 use Rattle.tree.specs.Tree.{le16, le32, Element, elements, countN, textsOf, elementsOf}
+use Rattle.tree.specs.declared.bytes.Header.{Header}
+
+-- 'kind u16, level u16, length u32': the eight bytes at a place
+unfoldable pub headerAt : List ℕ → ℕ → Header
+headerAt s at = record { kind = le16 s at; level = le16 s (at + 2); size = le32 s (at + 4) }
 
 -- 'kind u16': the first two of element i's eight bytes
 unfoldable pub kindIn : List ℕ → ℕ → ℕ
@@ -38,13 +43,13 @@ textIn image i = take (sizeIn image i) (drop (startIn image i) (textsOf image))
 abbrev pub elementIn : List ℕ → ℕ → Element
 elementIn image i = record { number = i; kind = kindIn image i; level = levelIn image i; size = sizeIn image i; text = textIn image i }
 
-le16-drop : (n : ℕ) (s : List ℕ) (i : ℕ) → le16 (drop n s) i ≡ le16 s (n + i)
+pub le16-drop : (n : ℕ) (s : List ℕ) (i : ℕ) → le16 (drop n s) i ≡ le16 s (n + i)
 unfolding le16
 le16-drop n s i =
     let e : n + (i + 1) ≡ n + i + 1 = omega arith in
     rw (getD-drop n s i 0, getD-drop n s (i + 1) 0, e)
 
-le32-drop : (n : ℕ) (s : List ℕ) (i : ℕ) → le32 (drop n s) i ≡ le32 s (n + i)
+pub le32-drop : (n : ℕ) (s : List ℕ) (i : ℕ) → le32 (drop n s) i ≡ le32 s (n + i)
 unfolding le32
 le32-drop n s i =
     let e : n + (i + 2) ≡ n + i + 2 = omega arith in

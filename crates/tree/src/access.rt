@@ -1,11 +1,11 @@
 // Reading the index: an element's numbers and text, and the parts of a region by their kinds.
 use super::ElementNumber;
 use super::Found;
+use super::bytes;
 use super::class::Class;
 use super::class::Kinds;
 use super::class::is;
 use super::class::kinds_of;
-use super::read;
 ghost use mathlib.Core.Path.{_≡_};
 ghost use mathlib.Core.Bool.{cond};
 ghost use mathlib.Core.Option.{some};
@@ -64,7 +64,7 @@ pub fn text_at<'a>(index: &[u32], text: &'a [u8], i: u32) -> &'a [u8]
 {
     let start = start_at(index, i);
     let end = start_at(index, end_at(index, i));
-    read::front(read::behind(text, start as usize), gap(start, end))
+    bytes::front(bytes::behind(text, start as usize), gap(start, end))
 }
 
 // Element i is an operator with text `+`.

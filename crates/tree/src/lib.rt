@@ -1,8 +1,10 @@
 // The tree image: why an image is turned away, and the index of its tree.
 pub mod access;
+mod bytes;
 pub mod class;
 pub mod index;
 mod read;
+mod reader;
 mod refuse;
 
 pub use read::element_count;

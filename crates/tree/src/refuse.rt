@@ -2,6 +2,8 @@
 use super::ElementNumber;
 use super::Found;
 use super::read;
+use super::read::COUNT;
+use super::reader;
 ghost use mathlib.Core.Path.{_≡_};
 ghost use mathlib.Core.Bool.{not, _&&_, _||_};
 ghost use Prim.Native.Nat.{_+_, _<_, suc};
@@ -46,9 +48,11 @@ const IDENT: u16 = 90;
 pub fn wrong_length(image: &[u8]) -> bool
     ensures { λ r. ⌜ r ≡ wrongLength (now (image .entry)) ⌝ }
 {
-    let n = read::element_count(image) as usize;
+    let end = read::place_of(read::element_count(image));
     let b = read::byte_count(image) as usize;
-    (image.len() < 4) | ((image.len() < 8 + 8 * n) | (image.len() != 8 + 8 * n + b))
+    let no_count = reader::left_from(image, 0) < COUNT;
+    let no_bytes = reader::left_from(image, end) < COUNT;
+    no_count | (no_bytes | (reader::left_from(image, end + COUNT) != b))
 }
 
 // 2: N is 0 or above 4,096, or B is above 32,000.

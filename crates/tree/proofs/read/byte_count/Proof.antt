@@ -9,9 +9,7 @@ byte-count-spec =
     tie.close
     (tie.spec
     (λ c κs. search needs)  -- element-count-requires
-    (λ c. search needs)  -- cast-u32-at
-    (λ c. search needs)  -- mul-u32-at
-    (λ c. search needs)  -- add-u32-at
-    (λ c κs. search needs)  -- u32-at-requires
-    (λ c. rw (← (c .before .element-count .ensures)) (c .u32-at .ensures))  -- returns
+    (λ c κs. search needs)  -- place-of-requires
+    (λ c κs. search needs)  -- number-from-requires
+    (λ c. rw (← (c .before .before .element-count .ensures), ← (c .before .place-of .ensures)) (c .number-from .ensures))  -- returns
     )

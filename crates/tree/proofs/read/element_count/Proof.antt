@@ -8,6 +8,6 @@ unfolding countN
 element-count-spec =
     tie.close
     (tie.spec
-    (λ c κs. search needs)  -- u32-at-requires
-    (λ c. c .u32-at .ensures)  -- returns
+    (λ c κs. search needs)  -- number-from-requires
+    (λ c. c .number-from .ensures)  -- returns
     )

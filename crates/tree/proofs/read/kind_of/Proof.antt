@@ -1,15 +1,13 @@
+use mathlib.Core.Path.{ap}
 use borrow.Author.Needs.{needs}
-use Rattle.tree.specs.Image.{kindIn}
+use Rattle.tree.specs.declared.bytes.Header.{Header}
 use Rattle.tree.proofs.read.kind_of.Statement.{statement}
 use Rattle.tree.proofs.read.kind_of.Tie as tie
 
 pub kind-of-spec : {M : Type 1} → statement M
-unfolding kindIn
 kind-of-spec =
     tie.close
     (tie.spec
-    (λ c. search needs)  -- mul-u16-at
-    (λ c. search needs)  -- add-u16-at
-    (λ c κs. search needs)  -- u16-at-requires
-    (λ c. c .u16-at .ensures)  -- returns
+    (λ c κs. search needs)  -- element-of-requires
+    (λ c. ap (λ (e : Header). e .kind) (c .element-of .ensures))  -- returns
     )

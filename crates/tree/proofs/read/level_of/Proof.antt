@@ -1,16 +1,13 @@
+use mathlib.Core.Path.{ap}
 use borrow.Author.Needs.{needs}
-use Rattle.tree.specs.Image.{levelIn}
+use Rattle.tree.specs.declared.bytes.Header.{Header}
 use Rattle.tree.proofs.read.level_of.Statement.{statement}
 use Rattle.tree.proofs.read.level_of.Tie as tie
 
 pub level-of-spec : {M : Type 1} → statement M
-unfolding levelIn
 level-of-spec =
     tie.close
     (tie.spec
-    (λ c. search needs)  -- add-u16-at
-    (λ c. search needs)  -- mul-u16-at
-    (λ c. search needs)  -- add-u16-at-2
-    (λ c κs. search needs)  -- u16-at-requires
-    (λ c. c .u16-at .ensures)  -- returns
+    (λ c κs. search needs)  -- element-of-requires
+    (λ c. ap (λ (e : Header). e .level) (c .element-of .ensures))  -- returns
     )

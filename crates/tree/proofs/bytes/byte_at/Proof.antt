@@ -1,8 +1,8 @@
 use mathlib.Core.Path.{sym}
 use lib.ListN.{List·getD-eq-default}
 use borrow.Author.Needs.{needs}
-use Rattle.tree.proofs.read.byte_at.Statement.{statement}
-use Rattle.tree.proofs.read.byte_at.Tie as tie
+use Rattle.tree.proofs.bytes.byte_at.Statement.{statement}
+use Rattle.tree.proofs.bytes.byte_at.Tie as tie
 
 pub byte-at-spec : {M : Type 1} → statement M
 byte-at-spec =

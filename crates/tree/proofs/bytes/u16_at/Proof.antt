@@ -1,8 +1,8 @@
 use native.Mathlib.Omega.{arith}
 use borrow.Author.Needs.{needs}
 use Rattle.tree.specs.Tree.{le16}
-use Rattle.tree.proofs.read.u16_at.Statement.{statement}
-use Rattle.tree.proofs.read.u16_at.Tie as tie
+use Rattle.tree.proofs.bytes.u16_at.Statement.{statement}
+use Rattle.tree.proofs.bytes.u16_at.Tie as tie
 
 pub u16-at-spec : {M : Type 1} → statement M
 unfolding le16

@@ -1,8 +1,8 @@
 use native.Mathlib.Omega.{arith}
 use borrow.Author.Needs.{needs}
 use Rattle.tree.specs.Tree.{le32}
-use Rattle.tree.proofs.read.u32_at.Statement.{statement}
-use Rattle.tree.proofs.read.u32_at.Tie as tie
+use Rattle.tree.proofs.bytes.u32_at.Statement.{statement}
+use Rattle.tree.proofs.bytes.u32_at.Tie as tie
 
 pub u32-at-spec : {M : Type 1} → statement M
 unfolding le32

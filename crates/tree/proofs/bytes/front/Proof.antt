@@ -2,8 +2,8 @@ use mathlib.Core.Path.{sym}
 use lib.Seq.{length-take-le}
 use borrow.Author.Needs.{needs}
 use Rattle.tree.proofs.Parts.{front-whole}
-use Rattle.tree.proofs.read.front.Statement.{statement}
-use Rattle.tree.proofs.read.front.Tie as tie
+use Rattle.tree.proofs.bytes.front.Statement.{statement}
+use Rattle.tree.proofs.bytes.front.Tie as tie
 
 pub front-spec : {M : Type 1} → statement M
 front-spec =

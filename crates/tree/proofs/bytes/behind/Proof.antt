@@ -1,7 +1,7 @@
 use borrow.Author.Needs.{needs}
 use Rattle.tree.proofs.Parts.{rest-whole, rest-none}
-use Rattle.tree.proofs.read.behind.Statement.{statement}
-use Rattle.tree.proofs.read.behind.Tie as tie
+use Rattle.tree.proofs.bytes.behind.Statement.{statement}
+use Rattle.tree.proofs.bytes.behind.Tie as tie
 
 pub behind-spec : {M : Type 1} → statement M
 behind-spec =

@@ -1,0 +1,24 @@
+-- Numbers read in what stands from a place on.
+use mathlib.Core.Path.{_≡_}
+use mathlib.Core.List.{List}
+use Prim.Native.Nat.{ℕ, _+_, _*_}
+use native.Mathlib.Omega.{arith}
+use native.Mathlib.Nat.{add-zero}
+use lib.ListN.{drop}
+use Rattle.tree.specs.Tree.{le16, le32}
+use Rattle.tree.specs.Image.{headerAt, kindIn, levelIn, sizeIn, le16-drop, le32-drop}
+
+pub number-as : (s : List ℕ) (at : ℕ) {t : List ℕ} {n : ℕ} → t ≡ drop at s → n ≡ le32 t 0 → n ≡ le32 s at
+number-as s at p q = rw (q, p, le32-drop at s 0, add-zero at)
+
+pub header-as : (s : List ℕ) (at : ℕ) {t : List ℕ} {k l z : ℕ} → t ≡ drop at s → k ≡ le16 t 0 → l ≡ le16 t 2 → z ≡ le32 t 4 → record { kind = k; level = l; size = z } ≡ headerAt s at
+unfolding headerAt
+header-as s at p q r u = rw (q, r, u, p, le16-drop at s 0, le16-drop at s 2, le32-drop at s 4, add-zero at)
+
+-- the element at its place in the image
+pub header-in : (image : List ℕ) (i : ℕ) → headerAt image (4 + 8 * i) ≡ record { kind = kindIn image i; level = levelIn image i; size = sizeIn image i }
+unfolding headerAt kindIn levelIn sizeIn
+header-in image i =
+    let l : 4 + 8 * i + 2 ≡ 6 + 8 * i = omega arith in
+    let z : 4 + 8 * i + 4 ≡ 8 + 8 * i = omega arith in
+    rw (l, z)
