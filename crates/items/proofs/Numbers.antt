@@ -12,9 +12,9 @@ use Rattle.items.specs.declared.Entry.{Entry}
 use Rattle.items.specs.declared.Printed.{Printed}
 use Rattle.items.specs.declared.Printed.the-variants.{Done, Full}
 use Rattle.items.specs.Names.{lineLength}
-use Rattle.items.specs.Machine.{fit, grown}
+use Rattle.items.specs.Machine.{fit}
 use Rattle.items.specs.Fitting.{fit-true}
-use Rattle.items.specs.Entry.{grownBy, advanced}
+use Rattle.items.specs.Entry.{grownBy, grownWith, advanced}
 
 -- the largest of n and the numbers after it
 abbrev most : ℕ → List ℕ → ℕ
@@ -75,9 +75,9 @@ module _ (e : Entry) (c : Count) where
   pub counts-full : {m : ℕ} → m ≡ counts → 2 ^ 32 ≤ m → Full ≡ advanced e c
   counts-full q h = advance-full (beyond (e .first) (e .second) counts (rw q at h))
 
-  pub advance-done : {l m n : ℕ} → l ≡ line → m ≡ brought → m < 2 ^ 32 → n ≡ counts → n < 2 ^ 32 → Done (grown c (e .bytes) (e .runs) (e .marks) l) ≡ advanced e c
+  pub advance-done : {l m n : ℕ} {d : Count} → l ≡ line → d ≡ grownWith l e c → m ≡ brought → m < 2 ^ 32 → n ≡ counts → n < 2 ^ 32 → Done d ≡ advanced e c
   unfolding advanced
-  advance-done o p g q h = rw (o, fit-true (below (e .first) others (under (e .bytes) (e .first) (e .second) counts (rw p at g) (rw q at h))))
+  advance-done o d p g q h = rw (d, o, fit-true (below (e .first) others (under (e .bytes) (e .first) (e .second) counts (rw p at g) (rw q at h))))
 
   -- where the counts went on, the operands fit
   module _ (r : Printed) (d : Count) (went : r ≡ Done d) (is : r ≡ advanced e c) where

@@ -2,7 +2,7 @@
 use mathlib.Core.Path.{_≡_}
 use mathlib.Core.Bool.{cond}
 use mathlib.Core.List.{List}
-use Prim.Native.Nat.{ℕ}
+use Prim.Native.Nat.{ℕ, _<_, _^_}
 use lib.ListN.{length}
 use Rattle.items.specs.declared.Count.{Count}
 use Rattle.items.specs.declared.Entry.{Entry}
@@ -24,9 +24,21 @@ entryOf at x =
 abbrev pub plainEntry : ℕ → ℕ → ℕ → Entry
 plainEntry kind first second = record { kind = kind; first = first; second = second; bytes = 0; runs = 0; marks = 0 }
 
+-- the counts after an entry whose line has so many bytes
+abbrev pub grownWith : ℕ → Entry → Count → Count
+grownWith line e c = grown c (e .bytes) (e .runs) (e .marks) line
+
 -- the counts after an entry
 abbrev pub grownBy : Entry → Count → Count
-grownBy e c = grown c (e .bytes) (e .runs) (e .marks) (lineLength (c .records) (e .kind) (e .first) (e .second))
+grownBy e c = grownWith (lineLength (c .records) (e .kind) (e .first) (e .second)) e c
+
+-- The counts can be counted: each is a u32.
+pub record Counted (c : Count) : Type 0 where
+  pub records : c .records < 2 ^ 32
+  pub texts : c .texts < 2 ^ 32
+  pub runs : c .runs < 2 ^ 32
+  pub marks : c .marks < 2 ^ 32
+  pub lines : c .lines < 2 ^ 32
 
 -- printing goes on by an entry, or is full
 unfoldable pub advanced : Entry → Count → Printed

@@ -9,7 +9,7 @@ ghost use Rattle.items.specs.Item.{say, openRun, stopped, text, mark, ru
 ghost use Rattle.items.specs.Signal.{signalItem, conditionTest};
 ghost use Rattle.items.specs.Records.{recordOf};
 ghost use Rattle.items.specs.Machine.{held, Prints, store, storeRecord, nextRun, noCounts};
-ghost use Rattle.items.specs.Entry.{Emitted, advanced, entryOf, plainEntry};
+ghost use Rattle.items.specs.Entry.{Emitted, Counted, advanced, entryOf, grownWith, plainEntry};
 ghost use Rattle.items.specs.declared.Printed.the-variants.{Done};
 
 // The number of a line mark: run k has the marks 2k and 2k + 1.
@@ -172,6 +172,37 @@ fn larger(a: u64, b: u64) -> u64
     if a < b { b } else { a }
 }
 
+// The counts after a record whose line has so many bytes, by value.
+fn counted(c: Count, e: Entry, line: u32) -> Count
+    requires { ⌜ Counted (grownWith line e c) ⌝ }
+    ensures { λ r. ⌜ r ≡ grownWith line e c ⌝ }
+{
+    Count {
+        records: c.records + 1,
+        texts: c.texts + e.bytes as u32,
+        runs: c.runs + e.runs,
+        marks: c.marks + e.marks,
+        lines: c.lines + line,
+    }
+}
+
+// The counts are lent, and advanced by a record.
+fn count_record(c: &mut Count, e: Entry, line: u32)
+    requires { ⌜ Counted (grownWith line e (now c)) ⌝ }
+    ensures { λ _. ⌜ now (c .exit) ≡ grownWith line e (now (c .entry)) ⌝ }
+{
+    *c = counted(*c, e, line);
+}
+
+// Lends the counts to be advanced, and gives them back. Whoever calls it lends nothing and needs no walk.
+fn count_on(mut c: Count, e: Entry, line: u32) -> Count
+    requires { ⌜ Counted (grownWith line e c) ⌝ }
+    ensures { λ r. ⌜ r ≡ grownWith line e c ⌝ }
+{
+    count_record(&mut c, e, line);
+    c
+}
+
 // The counts after a record; full where one of them, or an operand, does not fit.
 fn advance(e: Entry, c: Count) -> Printed
     ensures { λ r. ⌜ r ≡ advanced e c ⌝ }
@@ -188,13 +219,7 @@ fn advance(e: Entry, c: Count) -> Printed
     if LIMIT <= larger(records, larger(texts, larger(runs, larger(marks, lines)))) {
         return Printed::Full;
     }
-    Printed::Done(Count {
-        records: records as u32,
-        texts: texts as u32,
-        runs: runs as u32,
-        marks: marks as u32,
-        lines: lines as u32,
-    })
+    Printed::Done(count_on(c, e, line as u32))
 }
 
 // The one place that emits: counts a record, and stores it if the counts still fit.

@@ -23,11 +23,11 @@ returns-2 c =
 
 returns-3 : tie.Need-returns-3
 returns-3 c =
-    let m = c .before in
+    let m = c .before .before in
     let k = m .before .before .before in
     let l = k .before .before in
     let i = l .before .before .before .before .before .before .before .before .before .before in
-    advance-done _ _ (l .line-length .ensures) (cc) (i .if1 .left) (counts-are _ _ (l .line-length .ensures) (k .larger3 .ensures) (m .before .before .larger4 .ensures) (m .before .larger5 .ensures) (m .larger6 .ensures)) (c .if2 .left)
+    advance-done _ _ (l .line-length .ensures) (c .count-on .ensures) (cc) (i .if1 .left) (counts-are _ _ (l .line-length .ensures) (k .larger3 .ensures) (m .before .before .larger4 .ensures) (m .before .larger5 .ensures) (m .larger6 .ensures)) (c .before .if2 .left)
 
 pub advance-spec : {M : Type 1} → statement M
 advance-spec =
@@ -56,10 +56,7 @@ advance-spec =
     (λ c κs. search needs)  -- larger-requires-5
     (λ c κs. search needs)  -- larger-requires-6
     returns-2  -- returns-2
-    (λ c. omega arith)  -- cast-t12
-    (λ c. omega arith)  -- cast-t13
-    (λ c. omega arith)  -- cast-t16
-    (λ c. omega arith)  -- cast-t17
-    (λ c. omega arith)  -- cast-t18
+    (λ c. search needs)  -- cast-count-on
+    (λ c κs. search needs)  -- count-on-requires
     returns-3  -- returns-3
     )
