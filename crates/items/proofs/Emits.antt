@@ -19,6 +19,8 @@ use Rattle.items.specs.declared.Entry.{Entry}
 use Rattle.items.specs.declared.Mark.{Mark}
 use Rattle.items.specs.declared.Printed.{Printed}
 use Rattle.items.specs.declared.Printed.the-variants.{Done, Stopped, Full}
+use Rattle.items.specs.declared.Room.{Room}
+use Rattle.items.specs.declared.Room.the-variants.{Line, Nowhere}
 use Rattle.items.specs.declared.Signal.{Signal}
 use Rattle.items.specs.declared.Signal.the-variants.{NewLine, SpaceOrNewLine, Tab, StartIndent, FinishIndent, StartGroup, FinishGroup, StartBlock, FinishBlock, Else, EndIf}
 use Rattle.items.specs.Item.{Item, text, mark, runEnd, again, ifTest, ok, Print, say, stopped, openRun}
@@ -26,17 +28,23 @@ use Rattle.items.specs.Item.{run as item}
 use Rattle.items.specs.Role.{role, isRun}
 use Rattle.items.specs.Records.{recordOf, bytesOf}
 use Rattle.items.specs.Signal.{signalItem, conditionTest}
-use Rattle.items.specs.Machine.{State, store, storeRecord, counted, printable, emitted, emitAll, onward, reaching, finish, run, seen, held, Prints, nextRun}
+use Rattle.items.specs.Machine.{State, store, counted, printable, emitted, emitAll, onward, reaching, finish, run, seen, held, Prints, nextRun}
 use Rattle.items.specs.Lengths.{line-length}
 use Rattle.items.specs.Laws.{Ended, stops, fills}
-use Rattle.items.specs.Entry.{entryOf, plainEntry, advanced, continued, Emitted}
+use Rattle.items.specs.Entry.{entryOf, plainEntry, storeEntry, advanced, continued, Emitted}
 use Rattle.items.proofs.Printed.{the-type}
+use Rattle.items.proofs.Room.{the-type as room-type}
 
 -- the other arm of a `let Printed::Done(c) = p else`
 pub ended : (p : Printed) → OneOf (1 ∷ 2 ∷ []) (tagOf the-type p) → Ended p
 ended (Done c) h = absurd (⊎-elim (λ w. omega arith) (λ w. omega arith) h)
 ended (Stopped e) h = stops e
 ended Full h = fills
+
+-- the other arm of a `let Room::Line(line) = room else`
+pub no-line : (r : Room) → OneOf (1 ∷ []) (tagOf room-type r) → r ≡ Nowhere
+no-line (Line n) h = absurd (omega arith)
+no-line Nowhere h = refl
 
 never-done : {p : Printed} {c : Count} → Ended p → p ≡ Done c → ⊥
 never-done (stops e) h = let z : _≡_ {A = ℕ} 0 1 = cc in omega arith
@@ -61,7 +69,7 @@ module _ (e : Entry) (rs : List ℕ) where
     pub emit-full : Ended r → Emitted e rs p rs r
     emit-full n = unwritten p r continues n
 
-    pub emit-done : (rs′ : List ℕ) → rs′ ≡ storeRecord rs (c .records) (e .kind) (e .first) (e .second) → Emitted e rs p rs′ r
+    pub emit-done : (rs′ : List ℕ) → rs′ ≡ storeEntry e c rs → Emitted e rs p rs′ r
     emit-done rs′ h = record { counts = continues; words = λ c′ d k _. let q : c ≡ c′ = cc in rw q at h }
 
 -- ---- what the functions that print one item show

@@ -2,12 +2,14 @@
 use mathlib.Core.Path.{_≡_}
 use mathlib.Core.Bool.{cond}
 use mathlib.Core.List.{List}
-use Prim.Native.Nat.{ℕ, _<_, _^_}
+use Prim.Native.Nat.{ℕ, _+_, _<_, _^_}
 use lib.ListN.{length}
 use Rattle.items.specs.declared.Count.{Count}
 use Rattle.items.specs.declared.Entry.{Entry}
 use Rattle.items.specs.declared.Printed.{Printed}
 use Rattle.items.specs.declared.Printed.the-variants.{Done, Stopped, Full}
+use Rattle.items.specs.declared.Room.{Room}
+use Rattle.items.specs.declared.Room.the-variants.{Line, Nowhere}
 use Rattle.items.specs.Item.{Item}
 use Rattle.items.specs.Role.{role, isRun, isMark}
 use Rattle.items.specs.Names.{lineLength}
@@ -32,13 +34,25 @@ grownWith line e c = grown c (e .bytes) (e .runs) (e .marks) line
 abbrev pub grownBy : Entry → Count → Count
 grownBy e c = grownWith (lineLength (c .records) (e .kind) (e .first) (e .second)) e c
 
--- The counts can be counted: each is a u32.
-pub record Counted (c : Count) : Type 0 where
-  pub records : c .records < 2 ^ 32
-  pub texts : c .texts < 2 ^ 32
-  pub runs : c .runs < 2 ^ 32
-  pub marks : c .marks < 2 ^ 32
-  pub lines : c .lines < 2 ^ 32
+-- The operands of an entry and the counts after it are u32s.
+pub record InRange (line : ℕ) (e : Entry) (c : Count) : Type 0 where
+  pub first : e .first < 2 ^ 32
+  pub second : e .second < 2 ^ 32
+  pub records : c .records + 1 < 2 ^ 32
+  pub texts : c .texts + e .bytes < 2 ^ 32
+  pub runs : c .runs + e .runs < 2 ^ 32
+  pub marks : c .marks + e .marks < 2 ^ 32
+  pub lines : c .lines + line < 2 ^ 32
+
+-- the records with an entry's record at its place
+abbrev pub storeEntry : Entry → Count → List ℕ → List ℕ
+storeEntry e c rs = storeRecord rs (c .records) (e .kind) (e .first) (e .second)
+
+-- the room for an entry
+unfoldable pub roomFor : Entry → Count → Room
+roomFor e c =
+    let line = lineLength (c .records) (e .kind) (e .first) (e .second) in
+    cond (countable (e .first) (e .second) (grownWith line e c)) (Line line) Nowhere
 
 -- printing goes on by an entry, or is full
 unfoldable pub advanced : Entry → Count → Printed
@@ -55,4 +69,4 @@ continued e Full = Full
 -- Printing goes on from p to r by an entry, whose record stands in the buffer if the counts went on.
 pub record Emitted (e : Entry) (rs : List ℕ) (p : Printed) (rs′ : List ℕ) (r : Printed) : Type 0 where
   pub counts : r ≡ continued e p
-  pub words : (c d : Count) → p ≡ Done c → r ≡ Done d → rs′ ≡ storeRecord rs (c .records) (e .kind) (e .first) (e .second)
+  pub words : (c d : Count) → p ≡ Done c → r ≡ Done d → rs′ ≡ storeEntry e c rs
