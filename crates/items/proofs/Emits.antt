@@ -19,8 +19,6 @@ use Rattle.items.specs.declared.Entry.{Entry}
 use Rattle.items.specs.declared.Mark.{Mark}
 use Rattle.items.specs.declared.Printed.{Printed}
 use Rattle.items.specs.declared.Printed.the-variants.{Done, Stopped, Full}
-use Rattle.items.specs.declared.Room.{Room}
-use Rattle.items.specs.declared.Room.the-variants.{Line, Nowhere}
 use Rattle.items.specs.declared.Signal.{Signal}
 use Rattle.items.specs.declared.Signal.the-variants.{NewLine, SpaceOrNewLine, Tab, StartIndent, FinishIndent, StartGroup, FinishGroup, StartBlock, FinishBlock, Else, EndIf}
 use Rattle.items.specs.Item.{Item, text, mark, runEnd, again, ifTest, ok, Print, say, stopped, openRun}
@@ -33,18 +31,12 @@ use Rattle.items.specs.Lengths.{line-length}
 use Rattle.items.specs.Laws.{Ended, stops, fills}
 use Rattle.items.specs.Entry.{entryOf, plainEntry, storeEntry, advanced, continued, Emitted}
 use Rattle.items.proofs.Printed.{the-type}
-use Rattle.items.proofs.Room.{the-type as room-type}
 
 -- the other arm of a `let Printed::Done(c) = p else`
 pub ended : (p : Printed) → OneOf (1 ∷ 2 ∷ []) (tagOf the-type p) → Ended p
 ended (Done c) h = absurd (⊎-elim (λ w. omega arith) (λ w. omega arith) h)
 ended (Stopped e) h = stops e
 ended Full h = fills
-
--- the other arm of a `let Room::Line(line) = room else`
-pub no-line : (r : Room) → OneOf (1 ∷ []) (tagOf room-type r) → r ≡ Nowhere
-no-line (Line n) h = absurd (omega arith)
-no-line Nowhere h = refl
 
 never-done : {p : Printed} {c : Count} → Ended p → p ≡ Done c → ⊥
 never-done (stops e) h = let z : _≡_ {A = ℕ} 0 1 = cc in omega arith

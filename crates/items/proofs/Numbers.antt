@@ -9,7 +9,6 @@ use borrow.Author.Tests.{le-ltb, ltb-true}
 use Rattle.text.specs.Basic.{all, and-true, All, ∅, _▹_}
 use Rattle.items.specs.declared.Count.{Count}
 use Rattle.items.specs.declared.Entry.{Entry}
-use Rattle.items.specs.declared.Printed.{Printed}
 use Rattle.items.specs.declared.Printed.the-variants.{Done, Full}
 use Rattle.items.specs.declared.Room.{Room}
 use Rattle.items.specs.declared.Room.the-variants.{Line, Nowhere}

@@ -1,6 +1,6 @@
 use borrow.Author.Needs.{needs}
 use Rattle.items.specs.Laws.{fills}
-use Rattle.items.proofs.Emits.{ended, no-line, emit-ended, emit-full, emit-done}
+use Rattle.items.proofs.Emits.{ended, emit-ended, emit-full, emit-done}
 use Rattle.items.proofs.Numbers.{nowhere-full, in-range, goes-on}
 use Rattle.items.proofs.emit.Statement.{statement}
 use Rattle.items.proofs.emit.Tie as tie
@@ -8,7 +8,7 @@ use Rattle.items.proofs.emit.Tie as tie
 returns-2 : tie.Need-returns-2
 returns-2 c =
     let f = c .before .before in
-    emit-full _ _ _ _ _ (f .before .before .p .given .1) (nowhere-full _ _ _ (f .fitting .ensures) (no-line _ (c .before .match2 .keys2))) fills
+    emit-full _ _ _ _ _ (f .before .before .p .given .1) (nowhere-full _ _ _ (f .fitting .ensures) (c .enum-told .given .1)) fills
 
 returns-3 : tie.Need-returns-3
 returns-3 c =
