@@ -12,10 +12,9 @@ use Rattle.items.specs.declared.Entry.{Entry}
 use Rattle.items.specs.declared.Printed.the-variants.{Done, Full}
 use Rattle.items.specs.declared.Room.{Room}
 use Rattle.items.specs.declared.Room.the-variants.{Line, Nowhere}
-use Rattle.items.specs.Names.{lineLength}
 use Rattle.items.specs.Machine.{fit}
 use Rattle.items.specs.Fitting.{fit-true}
-use Rattle.items.specs.Entry.{InRange, grownBy, grownWith, roomFor, advanced}
+use Rattle.items.specs.Entry.{InRange, lineOf, grownBy, grownWith, roomFor, advanced}
 
 -- the largest of n and the numbers after it
 abbrev most : ℕ → List ℕ → ℕ
@@ -53,7 +52,7 @@ beyond f s n h = omega arith
 
 module _ (e : Entry) (c : Count) where
   abbrev line : ℕ
-  line = lineLength (c .records) (e .kind) (e .first) (e .second)
+  line = lineOf e c
 
   -- the numbers after the first operand that must fit
   abbrev others : List ℕ
@@ -93,11 +92,11 @@ module _ (e : Entry) (c : Count) where
   module _ (r : Room) (is : r ≡ roomFor e c) where
     pub nowhere-full : r ≡ Nowhere → Full ≡ advanced e c
     unfolding roomFor advanced
-    nowhere-full h = go (fit (e .first ∷ others)) refl is
+    nowhere-full h = go (fit (e .first ∷ others)) is
       where
-        go : (t : Bool) → fit (e .first ∷ others) ≡ t → r ≡ cond t (Line line) Nowhere → Full ≡ cond t (Done (grownBy e c)) Full
-        go true p k = let z : _≡_ {A = ℕ} 0 1 = cc in absurd (omega arith)
-        go false p k = refl
+        go : (t : Bool) → r ≡ cond t (Line line) Nowhere → Full ≡ cond t (Done (grownBy e c)) Full
+        go true k = let z : _≡_ {A = ℕ} 0 1 = cc in absurd (omega arith)
+        go false k = refl
 
     module _ (l : ℕ) (h : r ≡ Line l) where
       fitted : (l ≡ line) × (fit (e .first ∷ others) ≡ true)

@@ -30,9 +30,13 @@ plainEntry kind first second = record { kind = kind; first = first; second = sec
 abbrev pub grownWith : ℕ → Entry → Count → Count
 grownWith line e c = grown c (e .bytes) (e .runs) (e .marks) line
 
+-- the bytes of an entry's line
+abbrev pub lineOf : Entry → Count → ℕ
+lineOf e c = lineLength (c .records) (e .kind) (e .first) (e .second)
+
 -- the counts after an entry
 abbrev pub grownBy : Entry → Count → Count
-grownBy e c = grownWith (lineLength (c .records) (e .kind) (e .first) (e .second)) e c
+grownBy e c = grownWith (lineOf e c) e c
 
 -- The operands of an entry and the counts after it are u32s.
 pub record InRange (line : ℕ) (e : Entry) (c : Count) : Type 0 where
@@ -48,17 +52,13 @@ pub record InRange (line : ℕ) (e : Entry) (c : Count) : Type 0 where
 abbrev pub storeEntry : Entry → Count → List ℕ → List ℕ
 storeEntry e c rs = storeRecord rs (c .records) (e .kind) (e .first) (e .second)
 
--- the room for an entry
+-- an entry's line, where the entry can be counted
 unfoldable pub roomFor : Entry → Count → Room
-roomFor e c =
-    let line = lineLength (c .records) (e .kind) (e .first) (e .second) in
-    cond (countable (e .first) (e .second) (grownWith line e c)) (Line line) Nowhere
+roomFor e c = cond (countable (e .first) (e .second) (grownBy e c)) (Line (lineOf e c)) Nowhere
 
 -- printing goes on by an entry, or is full
 unfoldable pub advanced : Entry → Count → Printed
-advanced e c =
-    let d = grownBy e c in
-    cond (countable (e .first) (e .second) d) (Done d) Full
+advanced e c = cond (countable (e .first) (e .second) (grownBy e c)) (Done (grownBy e c)) Full
 
 -- printing goes on only where it has neither stopped nor become full
 unfoldable pub continued : Entry → Printed → Printed

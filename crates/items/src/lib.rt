@@ -111,7 +111,7 @@ struct Entry {
     marks: u32,
 }
 
-// Room for a record, whose line has so many bytes.
+// Room for a record whose line has so many bytes, or none where a count or an operand does not fit.
 enum Room {
     Line(u32),
     Nowhere,
@@ -201,7 +201,8 @@ fn put_counted(records: &mut [u32], c: Count, e: Entry, line: u32) -> Count
     counted(c, e, line)
 }
 
-// Stores a record, and advances the counts that are lent.
+// Stores a record, and advances the counts that are lent. It is thin: the checker covers no reference to a struct, so this
+// function and the next are proved by walks of their operations.
 fn emit_record(records: &mut [u32], c: &mut Count, e: Entry, line: u32)
     requires { ⌜ InRange line e (now c) ⌝ }
     ensures { λ _. ⌜ (now (c .exit) ≡ grownWith line e (now (c .entry))) × (now (records .exit) ≡ storeEntry e (now (c .entry)) (now (records .entry))) ⌝ }
@@ -209,7 +210,7 @@ fn emit_record(records: &mut [u32], c: &mut Count, e: Entry, line: u32)
     *c = put_counted(records, *c, e, line);
 }
 
-// Lends the counts to be advanced, and gives them back: who calls this lends none and needs no walk.
+// Lends the counts for a record, and gives them back: whoever calls this lends none and needs no walk.
 fn emit_on(records: &mut [u32], mut c: Count, e: Entry, line: u32) -> Count
     requires { ⌜ InRange line e c ⌝ }
     ensures { λ r. ⌜ (r ≡ grownWith line e c) × (now (records .exit) ≡ storeEntry e c (now (records .entry))) ⌝ }
@@ -218,7 +219,7 @@ fn emit_on(records: &mut [u32], mut c: Count, e: Entry, line: u32) -> Count
     c
 }
 
-// Whether a record fits: each count after it and each operand.
+// Whether the operands of a record and the counts after it fit.
 fn fitting(e: Entry, c: Count) -> Room
     ensures { λ r. ⌜ r ≡ roomFor e c ⌝ }
 {
