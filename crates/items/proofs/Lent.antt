@@ -7,7 +7,7 @@ use lib.Dec.{T as Holds}
 use mir.Syntax.{w32}
 use mir.Val.{Val, WT, hasTy, vint}
 use base.Logic.{ent, emp}
-use base.Fml.{ftrue, fsep}
+use base.Fml.{Fml, ftrue, fsep}
 use prog.Wp.{Heap}
 use ghost.Atoms.{Atoms, sem}
 use types.Kit.{Given, _$_, _∵_, !, qed, fjoin, done}
@@ -38,6 +38,10 @@ counts = LL.vals T.the-type T′.the-laws
 abbrev pub entry : Entry → List Val
 entry = LL.vals S.the-type S′.the-laws
 
+-- what an entry and the bytes of its line own, as the last two parameters of a function
+abbrev pub Last : Entry → ℕ → Fml
+Last e n = fsep (E .own e (entry e)) (fsep (u32 .own n (vint w32 n ∷ [])) ftrue)
+
 -- the records and the counts after an entry whose line has n bytes
 abbrev pub Went : List ℕ → Count → Entry → ℕ → Count → List ℕ → Type 0
 Went rs c e n d rs′ = (d ≡ grownWith n e c) × (rs′ ≡ storeEntry e c rs)
@@ -53,5 +57,6 @@ module _ {M : Type 1} (𝓤 : URA M) (H : Heap 𝓤) (A : Atoms 𝓤) (W : Given
   pub count-owned : (c : Count) → Is C c (counts c) → ent 𝓤 (emp 𝓤) (sem 𝓤 H A (C .own c (counts c)))
   count-owned c is = LL.makes T.the-type T′.the-plain 𝓤 H A c (counts c) is
 
-  pub others-owned : (e : Entry) (n : ℕ) → Is E e (entry e) → n < 2 ^ 32 → ent 𝓤 (emp 𝓤) (sem 𝓤 H A (fsep (E .own e (entry e)) (fsep (u32 .own n (vint w32 n ∷ [])) ftrue)))
-  others-owned e n is fits = qed W [] ∵ nothing ! $ owned ! u32 (Is u32) (uint-makes 𝓤 H A W w32) n _ (refl, fits) $ fjoin ! $ owned ! E (Is E) (LL.makes S.the-type S′.the-plain 𝓤 H A) e _ is $ fjoin ! $ done !
+  pub last-owned : (e : Entry) (n : ℕ) → Is E e (entry e) → n < 2 ^ 32 → ent 𝓤 (emp 𝓤) (sem 𝓤 H A (Last e n))
+  last-owned e n is fits =
+      qed W [] ∵ nothing ! $ owned ! u32 (Is u32) (uint-makes 𝓤 H A W w32) n _ (refl, fits) $ fjoin ! $ owned ! E (Is E) (LL.makes S.the-type S′.the-plain 𝓤 H A) e _ is $ fjoin ! $ done !

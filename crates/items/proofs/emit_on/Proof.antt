@@ -11,7 +11,7 @@ use lib.Dec.{T as Holds}
 use mir.Syntax.{named, w32, tyUnit}
 use mir.Val.{Val, vint, vptr, WT, hasTy}
 use base.Logic.{SProp, ent, id⊢}
-use base.Fml.{GName, Lft, Share, ftrue, fsep, fat, flft, flent}
+use base.Fml.{GName, Lft, Share, ftrue, fat, flft, flent}
 use prog.Memory.{Memory}
 use prog.Routine.{Routine}
 use prog.Wp.{Heap, Calls, Loops, WpFn, Tables}
@@ -47,7 +47,7 @@ use borrow.Table.OneValue.{part-out, part-in}
 use Rattle.items.specs.declared.Count.{Count}
 use Rattle.items.specs.declared.Entry.{Entry}
 use Rattle.items.specs.Entry.{InRange}
-use Rattle.items.proofs.Lent.{C, E, counts, entry, Went, count-typed, entry-typed, count-owned, others-owned}
+use Rattle.items.proofs.Lent.{C, E, counts, entry, Last, Went, count-typed, entry-typed, count-owned, last-owned}
 use Rattle.items.proofs.Count as T
 use Rattle.items.proofs.Count.Laws as T′
 use Rattle.items.proofs.Entry as S
@@ -97,7 +97,7 @@ module _ {M : Type 1} (𝓤 : URA M) (H : Heap 𝓤) (A : Atoms 𝓤) (W : Given
   asked fits ν l δ =
       qed W ((‵ (flft κ q) ⊛ ‵ (flft (ν ∷ []) fullShare)) ∷ ‵ (MutSlice (named 0) κ u32 .own x (s ∷ [])) ∷ ‵ (MutRef (named 1) (ν ∷ []) C .own (y l δ) (vptr l 0 ∷ [])) ∷ []) ∵ says ! fits $
       split ! $ nothing ! $ move ! (2 ∷ 0 ∷ []) $ join ! $ move ! (1 ∷ 0 ∷ []) $ join ! $ frame ! $
-      use0 W (‵ (fsep (E .own e (entry e)) (fsep (u32 .own n (vint w32 n ∷ [])) ftrue))) (others-owned 𝓤 H A W e n e-is n-fits) $
+      use0 W (‵ (Last e n)) (last-owned 𝓤 H A W e n e-is n-fits) $
       move ! (2 ∷ 0 ∷ []) $ fjoin ! $ move ! (1 ∷ 0 ∷ []) $ fjoin ! $ done !
 
   exits : (r : Count) (u : Val) (zs : List ℕ) → Went (x .now) h e n r zs → length zs ≡ length (x .now) → ent 𝓤 (⋆ 𝓤 H A (‵ (flft κ q) ∷ ‵ (finally u32 (x .name) zs) ∷ ‵ (C .own r (u ∷ [])) ∷ [])) (Post u)
@@ -105,7 +105,7 @@ module _ {M : Type 1} (𝓤 : URA M) (H : Heap 𝓤) (A : Atoms 𝓤) (W : Given
       qed W (‵ (flft κ q) ∷ ‵ (finally u32 (x .name) zs) ∷ ‵ (C .own r (u ∷ [])) ∷ []) ∵
       suffices ! _ (ends-at 𝓤 H A on.ended stayed (on.clauses 𝓤 H A at-mem run) W (((κ, tt), (q, tt), tt, a, vals), tt) u r (zs, (tt, (tt, (tt, tt)))) (l, (tt, (tt, (tt, tt))))) $ says ! went $
       nothing ! $ move ! (1 ∷ 0 ∷ []) $ join ! $ frame ! $
-      use0 W (‵ (fsep (E .own e (entry e)) (fsep (u32 .own n (vint w32 n ∷ [])) ftrue))) (others-owned 𝓤 H A W e n e-is n-fits) $
+      use0 W (‵ (Last e n)) (last-owned 𝓤 H A W e n e-is n-fits) $
       use0 W (‵ (C .own h (counts h))) (count-owned 𝓤 H A W h h-is) $ fjoin ! $ move ! (1 ∷ 0 ∷ []) $ fjoin ! $ done !
 
   module _ (K : Calls 𝓤 H) (Λ : Loops 𝓤 H) (fm : FmC 𝓤 H (W .laws) K) (known : Triple 𝓤 (K #items·emit-record) (Lent 𝓤 H A at-mem run)) where
