@@ -26,10 +26,10 @@ use Rattle.items.specs.Item.{run as item}
 use Rattle.items.specs.Role.{role, isRun}
 use Rattle.items.specs.Records.{recordOf, bytesOf}
 use Rattle.items.specs.Signal.{signalItem, conditionTest}
-use Rattle.items.specs.Machine.{State, store, storeRecord, counted, printable, emitted, emitAll, onward, reaching, finish, run, seen, held, Prints, nextRun}
+use Rattle.items.specs.Machine.{State, store, counted, printable, emitted, emitAll, onward, reaching, finish, run, seen, held, Prints, nextRun}
 use Rattle.items.specs.Lengths.{line-length}
 use Rattle.items.specs.Laws.{Ended, stops, fills}
-use Rattle.items.specs.Entry.{entryOf, plainEntry, advanced, continued, Emitted}
+use Rattle.items.specs.Entry.{entryOf, plainEntry, storeEntry, advanced, continued, Emitted}
 use Rattle.items.proofs.Printed.{the-type}
 
 -- the other arm of a `let Printed::Done(c) = p else`
@@ -61,7 +61,7 @@ module _ (e : Entry) (rs : List ℕ) where
     pub emit-full : Ended r → Emitted e rs p rs r
     emit-full n = unwritten p r continues n
 
-    pub emit-done : (rs′ : List ℕ) → rs′ ≡ storeRecord rs (c .records) (e .kind) (e .first) (e .second) → Emitted e rs p rs′ r
+    pub emit-done : (rs′ : List ℕ) → rs′ ≡ storeEntry e c rs → Emitted e rs p rs′ r
     emit-done rs′ h = record { counts = continues; words = λ c′ d k _. let q : c ≡ c′ = cc in rw q at h }
 
 -- ---- what the functions that print one item show

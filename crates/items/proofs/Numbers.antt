@@ -9,12 +9,12 @@ use borrow.Author.Tests.{le-ltb, ltb-true}
 use Rattle.text.specs.Basic.{all, and-true, All, ∅, _▹_}
 use Rattle.items.specs.declared.Count.{Count}
 use Rattle.items.specs.declared.Entry.{Entry}
-use Rattle.items.specs.declared.Printed.{Printed}
 use Rattle.items.specs.declared.Printed.the-variants.{Done, Full}
-use Rattle.items.specs.Names.{lineLength}
-use Rattle.items.specs.Machine.{fit, grown}
+use Rattle.items.specs.declared.Room.{Room}
+use Rattle.items.specs.declared.Room.the-variants.{Line, Nowhere}
+use Rattle.items.specs.Machine.{fit}
 use Rattle.items.specs.Fitting.{fit-true}
-use Rattle.items.specs.Entry.{grownBy, advanced}
+use Rattle.items.specs.Entry.{InRange, lineOf, grownBy, grownWith, roomFor, advanced}
 
 -- the largest of n and the numbers after it
 abbrev most : ℕ → List ℕ → ℕ
@@ -34,6 +34,12 @@ misfits n (m ∷ ms) h = go (ltb n (2 ^ 32)) refl (misfits m ms)
     go true e f = f (omega (arith, ltb-true n (2 ^ 32) e))
     go false e f = refl
 
+-- numbers that are tested to fit are below the limit
+fits-below : (ns : List ℕ) → fit ns ≡ true → All (λ m. m < 2 ^ 32) ns
+unfolding fit all
+fits-below [] h = ∅
+fits-below (n ∷ ns) h = let (a, s) = and-true _ _ h in ltb-true n (2 ^ 32) a ▹ fits-below ns s
+
 -- a length or an operand that does not fit is met among the numbers that must fit
 over : (l f s r t n : ℕ) → 2 ^ 32 ≤ max l (max f s) → l ≤ t → 2 ^ 32 ≤ max f (max s (max r (max t n)))
 over l f s r t n h k = omega arith
@@ -46,11 +52,14 @@ beyond f s n h = omega arith
 
 module _ (e : Entry) (c : Count) where
   abbrev line : ℕ
-  line = lineLength (c .records) (e .kind) (e .first) (e .second)
+  line = lineOf e c
 
   -- the numbers after the first operand that must fit
   abbrev others : List ℕ
   others = e .second ∷ (c .records + 1) ∷ (c .texts + e .bytes) ∷ (c .runs + e .runs) ∷ (c .marks + e .marks) ∷ (c .lines + line) ∷ []
+
+  ranged : All (λ m. m < 2 ^ 32) (e .first ∷ others) → InRange line e c
+  ranged (f ▹ s ▹ r ▹ t ▹ k ▹ m ▹ l ▹ ∅) = record { first = f; second = s; records = r; texts = t; runs = k; marks = m; lines = l }
 
   -- the largest of what an entry brings, and of the counts after it
   abbrev brought : ℕ
@@ -65,34 +74,42 @@ module _ (e : Entry) (c : Count) where
       → n ≡ counts
   counts-are o h i j k = rw (k, j, i, h, o)
 
-  advance-full : 2 ^ 32 ≤ most (e .first) others → Full ≡ advanced e c
-  unfolding advanced
-  advance-full h = rw (misfits (e .first) others h)
+  no-room : 2 ^ 32 ≤ most (e .first) others → Nowhere ≡ roomFor e c
+  unfolding roomFor
+  no-room h = rw (misfits (e .first) others h)
 
-  pub brought-full : {m : ℕ} → m ≡ brought → 2 ^ 32 ≤ m → Full ≡ advanced e c
-  brought-full q h = advance-full (over (e .bytes) (e .first) (e .second) _ (c .texts + e .bytes) _ (rw q at h) (omega arith))
+  pub brought-full : {m : ℕ} → m ≡ brought → 2 ^ 32 ≤ m → Nowhere ≡ roomFor e c
+  brought-full q h = no-room (over (e .bytes) (e .first) (e .second) _ (c .texts + e .bytes) _ (rw q at h) (omega arith))
 
-  pub counts-full : {m : ℕ} → m ≡ counts → 2 ^ 32 ≤ m → Full ≡ advanced e c
-  counts-full q h = advance-full (beyond (e .first) (e .second) counts (rw q at h))
+  pub counts-full : {m : ℕ} → m ≡ counts → 2 ^ 32 ≤ m → Nowhere ≡ roomFor e c
+  counts-full q h = no-room (beyond (e .first) (e .second) counts (rw q at h))
 
-  pub advance-done : {l m n : ℕ} → l ≡ line → m ≡ brought → m < 2 ^ 32 → n ≡ counts → n < 2 ^ 32 → Done (grown c (e .bytes) (e .runs) (e .marks) l) ≡ advanced e c
-  unfolding advanced
-  advance-done o p g q h = rw (o, fit-true (below (e .first) others (under (e .bytes) (e .first) (e .second) counts (rw p at g) (rw q at h))))
+  pub room-line : {l m n : ℕ} → l ≡ line → m ≡ brought → m < 2 ^ 32 → n ≡ counts → n < 2 ^ 32 → Line l ≡ roomFor e c
+  unfolding roomFor
+  room-line o p g q h = rw (o, fit-true (below (e .first) others (under (e .bytes) (e .first) (e .second) counts (rw p at g) (rw q at h))))
 
-  -- where the counts went on, the operands fit
-  module _ (r : Printed) (d : Count) (went : r ≡ Done d) (is : r ≡ advanced e c) where
-    operands : (e .first < 2 ^ 32) × (e .second < 2 ^ 32)
-    unfolding advanced fit all
-    operands = go (fit (e .first ∷ others)) refl is
+  -- what the room for an entry says
+  module _ (r : Room) (is : r ≡ roomFor e c) where
+    pub nowhere-full : r ≡ Nowhere → Full ≡ advanced e c
+    unfolding roomFor advanced
+    nowhere-full h = go (fit (e .first ∷ others)) is
       where
-        go : (t : Bool) → fit (e .first ∷ others) ≡ t → r ≡ cond t (Done (grownBy e c)) Full → (e .first < 2 ^ 32) × (e .second < 2 ^ 32)
-        go true p q =
-            let (a, s) = and-true _ _ p in
-            (ltb-true (e .first) (2 ^ 32) a, ltb-true (e .second) (2 ^ 32) (and-true _ _ s .0))
-        go false p q = let z : _≡_ {A = ℕ} 0 1 = cc in absurd (omega arith)
+        go : (t : Bool) → r ≡ cond t (Line line) Nowhere → Full ≡ cond t (Done (grownBy e c)) Full
+        go true k = let z : _≡_ {A = ℕ} 0 1 = cc in absurd (omega arith)
+        go false k = refl
 
-    pub first-fits : e .first < 2 ^ 32
-    first-fits = operands .0
+    module _ (l : ℕ) (h : r ≡ Line l) where
+      fitted : (l ≡ line) × (fit (e .first ∷ others) ≡ true)
+      unfolding roomFor
+      fitted = go (fit (e .first ∷ others)) refl is
+        where
+          go : (t : Bool) → fit (e .first ∷ others) ≡ t → r ≡ cond t (Line line) Nowhere → (l ≡ line) × (fit (e .first ∷ others) ≡ true)
+          go true p k = (cc, p)
+          go false p k = let z : _≡_ {A = ℕ} 0 1 = cc in absurd (omega arith)
 
-    pub second-fits : e .second < 2 ^ 32
-    second-fits = operands .1
+      pub in-range : InRange l e c
+      in-range = rw (fitted .0) (ranged (fits-below _ (fitted .1)))
+
+      pub goes-on : (d : Count) → d ≡ grownWith l e c → Done d ≡ advanced e c
+      unfolding advanced
+      goes-on d g = rw (g, fitted .0, fitted .1)

@@ -9,7 +9,7 @@ ghost use Rattle.items.specs.Item.{say, openRun, stopped, text, mark, ru
 ghost use Rattle.items.specs.Signal.{signalItem, conditionTest};
 ghost use Rattle.items.specs.Records.{recordOf};
 ghost use Rattle.items.specs.Machine.{held, Prints, store, storeRecord, nextRun, noCounts};
-ghost use Rattle.items.specs.Entry.{Emitted, advanced, entryOf, plainEntry};
+ghost use Rattle.items.specs.Entry.{Emitted, InRange, entryOf, grownWith, plainEntry, roomFor, storeEntry};
 ghost use Rattle.items.specs.declared.Printed.the-variants.{Done};
 
 // The number of a line mark: run k has the marks 2k and 2k + 1.
@@ -111,6 +111,12 @@ struct Entry {
     marks: u32,
 }
 
+// Room for a record whose line has so many bytes, or none where a count or an operand does not fit.
+enum Room {
+    Line(u32),
+    Nowhere,
+}
+
 // A record with no text that is neither a run nor a mark.
 fn plain(kind: u32, first: u64, second: u64) -> Entry
     ensures { λ r. ⌜ r ≡ plainEntry kind first second ⌝ }
@@ -172,12 +178,53 @@ fn larger(a: u64, b: u64) -> u64
     if a < b { b } else { a }
 }
 
-// The counts after a record; full where one of them, or an operand, does not fit.
-fn advance(e: Entry, c: Count) -> Printed
-    ensures { λ r. ⌜ r ≡ advanced e c ⌝ }
+// The counts after a record whose line has so many bytes.
+fn counted(c: Count, e: Entry, line: u32) -> Count
+    requires { ⌜ InRange line e c ⌝ }
+    ensures { λ r. ⌜ r ≡ grownWith line e c ⌝ }
+{
+    Count {
+        records: c.records + 1,
+        texts: c.texts + e.bytes as u32,
+        runs: c.runs + e.runs,
+        marks: c.marks + e.marks,
+        lines: c.lines + line,
+    }
+}
+
+// Stores a record, and gives the counts after it.
+fn put_counted(records: &mut [u32], c: Count, e: Entry, line: u32) -> Count
+    requires { ⌜ InRange line e c ⌝ }
+    ensures { λ r. ⌜ (r ≡ grownWith line e c) × (now (records .exit) ≡ storeEntry e c (now (records .entry))) ⌝ }
+{
+    put_record(records, c.records, e.kind, e.first as u32, e.second as u32);
+    counted(c, e, line)
+}
+
+// Stores a record, and advances the counts that are lent. It is thin: the checker covers no reference to a struct, so this
+// function and the next are proved by walks of their operations.
+fn emit_record(records: &mut [u32], c: &mut Count, e: Entry, line: u32)
+    requires { ⌜ InRange line e (now c) ⌝ }
+    ensures { λ _. ⌜ (now (c .exit) ≡ grownWith line e (now (c .entry))) × (now (records .exit) ≡ storeEntry e (now (c .entry)) (now (records .entry))) ⌝ }
+{
+    *c = put_counted(records, *c, e, line);
+}
+
+// Lends the counts for a record, and gives them back: whoever calls this lends none and needs no walk.
+fn emit_on(records: &mut [u32], mut c: Count, e: Entry, line: u32) -> Count
+    requires { ⌜ InRange line e c ⌝ }
+    ensures { λ r. ⌜ (r ≡ grownWith line e c) × (now (records .exit) ≡ storeEntry e c (now (records .entry))) ⌝ }
+{
+    emit_record(records, &mut c, e, line);
+    c
+}
+
+// Whether the operands of a record and the counts after it fit.
+fn fitting(e: Entry, c: Count) -> Room
+    ensures { λ r. ⌜ r ≡ roomFor e c ⌝ }
 {
     if LIMIT <= larger(e.bytes, larger(e.first, e.second)) {
-        return Printed::Full;
+        return Room::Nowhere;
     }
     let records = c.records as u64 + 1;
     let texts = c.texts as u64 + e.bytes;
@@ -186,30 +233,23 @@ fn advance(e: Entry, c: Count) -> Printed
     let line = lines::line_length(c.records, e.kind, e.first as u32, e.second as u32);
     let lines = c.lines as u64 + line;
     if LIMIT <= larger(records, larger(texts, larger(runs, larger(marks, lines)))) {
-        return Printed::Full;
+        return Room::Nowhere;
     }
-    Printed::Done(Count {
-        records: records as u32,
-        texts: texts as u32,
-        runs: runs as u32,
-        marks: marks as u32,
-        lines: lines as u32,
-    })
+    Room::Line(line as u32)
 }
 
-// The one place that emits: counts a record, and stores it if the counts still fit.
+// The one place that emits: counts a record and stores it, if the counts still fit.
 fn emit(records: &mut [u32], e: Entry, p: Printed) -> Printed
     ensures { λ r. ⌜ Emitted e (now (records .entry)) p (now (records .exit)) r ⌝ }
 {
     let Printed::Done(c) = p else {
         return p;
     };
-    let r = advance(e, c);
-    let Printed::Done(_) = r else {
-        return r;
+    let room = fitting(e, c);
+    let Room::Line(line) = room else {
+        return Printed::Full;
     };
-    put_record(records, c.records, e.kind, e.first as u32, e.second as u32);
-    r
+    Printed::Done(emit_on(records, c, e, line))
 }
 
 // Nothing is printed yet.

@@ -3,9 +3,9 @@ use Prim.Native.Nat.{_<_, _^_}
 use borrow.Author.Needs.{needs}
 use Rattle.items.specs.Decimals.{decimal-short}
 use Rattle.items.specs.Lengths.{described-small}
-use Rattle.items.proofs.Numbers.{brought-full, counts-are, counts-full, advance-done}
-use Rattle.items.proofs.advance.Statement.{statement}
-use Rattle.items.proofs.advance.Tie as tie
+use Rattle.items.proofs.Numbers.{brought-full, counts-are, counts-full, room-line}
+use Rattle.items.proofs.fitting.Statement.{statement}
+use Rattle.items.proofs.fitting.Tie as tie
 
 add-lines : tie.Need-add-lines
 add-lines c =
@@ -27,10 +27,10 @@ returns-3 c =
     let k = m .before .before .before in
     let l = k .before .before in
     let i = l .before .before .before .before .before .before .before .before .before .before in
-    advance-done _ _ (l .line-length .ensures) (cc) (i .if1 .left) (counts-are _ _ (l .line-length .ensures) (k .larger3 .ensures) (m .before .before .larger4 .ensures) (m .before .larger5 .ensures) (m .larger6 .ensures)) (c .if2 .left)
+    room-line _ _ (l .line-length .ensures) (cc) (i .if1 .left) (counts-are _ _ (l .line-length .ensures) (k .larger3 .ensures) (m .before .before .larger4 .ensures) (m .before .larger5 .ensures) (m .larger6 .ensures)) (c .if2 .left)
 
-pub advance-spec : {M : Type 1} → statement M
-advance-spec =
+pub fitting-spec : {M : Type 1} → statement M
+fitting-spec =
     tie.close
     (tie.spec
     (λ c κs. search needs)  -- larger-requires
@@ -56,10 +56,6 @@ advance-spec =
     (λ c κs. search needs)  -- larger-requires-5
     (λ c κs. search needs)  -- larger-requires-6
     returns-2  -- returns-2
-    (λ c. omega arith)  -- cast-t12
-    (λ c. omega arith)  -- cast-t13
-    (λ c. omega arith)  -- cast-t16
-    (λ c. omega arith)  -- cast-t17
-    (λ c. omega arith)  -- cast-t18
+    (λ c. search needs)  -- cast-line
     returns-3  -- returns-3
     )
