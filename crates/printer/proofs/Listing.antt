@@ -11,7 +11,6 @@ use lib.ListN.{length}
 use borrow.Author.Tests.{ne-eqb}
 use Rattle.text.specs.Basic.{isNil}
 use Rattle.items.specs.Item.{Test, lines, newline, indent, outdent, mark, group, Print, _⨟_, none, say, stopped, lit, when, numbered}
-use Rattle.items.specs.Laws.{by}
 use Rattle.tree.specs.Tree.{Part}
 use Rattle.tree.specs.Class.{numberOf}
 use Rattle.children.specs.declared.survey.Outline.{Outline}

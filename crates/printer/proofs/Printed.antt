@@ -21,7 +21,7 @@ use Rattle.tree.specs.Class.{first, last, numberOf}
 use Rattle.tree.specs.Index.{endAt}
 use Rattle.children.specs.declared.between.Bounds.{Bounds}
 use Rattle.children.specs.declared.survey.Outline.{Outline}
-use Rattle.children.specs.Reading.{Reading, between, enclosed, compSpecs}
+use Rattle.children.specs.Reading.{Reading, enclosed, compSpecs}
 use Rattle.children.specs.Spans.{gapAt}
 use Rattle.children.specs.Between.{Bounded}
 use Rattle.printer.specs.declared.lists.ListKind.{ListKind}

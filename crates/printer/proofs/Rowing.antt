@@ -23,7 +23,6 @@ use Rattle.tree.specs.Class.{kinds, oneOf, nth, plusOf, numberOf}
 use Rattle.tree.specs.Index.{kindAt, endAt, partAt, partsFrom, Region}
 use Rattle.tree.specs.Parts.{region-part, region-past, region-next, parts-over}
 use Rattle.children.specs.Stretch.{Stretch, stretch-none, stretch-both}
-use Rattle.children.specs.Between.{has}
 use Rattle.printer.specs.declared.rows.Entry.{Entry}
 use Rattle.printer.specs.declared.rows.Extent.{Extent}
 use Rattle.printer.specs.Layout

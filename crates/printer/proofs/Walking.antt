@@ -26,7 +26,7 @@ use Rattle.children.specs.Gaps.{Gap, gapOf}
 use Rattle.children.specs.Spans.{Lies, Spans, Surveyed, spanned, gapAt}
 use Rattle.children.specs.Uses.{span-reached, survey-reading, survey-after-reading}
 use Rattle.printer.specs.declared.lists.Style.{Style}
-use Rattle.printer.specs.Print.{valuesOf, values}
+use Rattle.printer.specs.Print.{valuesOf}
 use Rattle.printer.specs.Lists.{onLine, behindIt}
 use Rattle.printer.specs.Seq.{Goes, goes-none, goes-more, goes-all}
 use Rattle.printer.specs.Under.{under, printOf, kid-print, kid-at}
