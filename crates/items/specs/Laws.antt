@@ -76,10 +76,6 @@ pub says-append : (xs ys : List Item) → says (xs ++ ys) ≡ says xs ⨟ says y
 unfolding says _⨟_
 says-append xs ys = refl
 
-pub says-cons : (x : Item) (xs : List Item) → says (x ∷ xs) ≡ say x ⨟ says xs
-unfolding says say _⨟_
-says-cons x xs = refl
-
 -- ---- printers' contracts
 
 -- nothing printed

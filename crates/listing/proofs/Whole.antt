@@ -11,7 +11,7 @@ use lib.ListN.{length, getD, drop, length-append, length-drop}
 use lib.Seq.{getD-drop, drop-drop}
 use borrow.Author.Tests.{eqb-true, eqb-false}
 use Rattle.items.specs.Item.{Item}
-use Rattle.items.specs.Records.{bytes, Counts, itemOf, cons, decoded}
+use Rattle.items.specs.Records.{Counts, itemOf, cons, decoded}
 use Rattle.items.specs.Lines.{recordLines}
 use Rattle.listing.specs.Listing.{headLine, listing}
 use Rattle.listing.specs.Writes.{Room}

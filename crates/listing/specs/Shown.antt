@@ -1,10 +1,9 @@
 -- What the private functions write, by the numbers of records and of names. Only contracts of private functions cite this.
 use mathlib.Core.Path.{_≡_}
-use mathlib.Core.Bool.{Bool, cond, _&&_, _||_}
-use mathlib.Core.List.{List, [], _∷_, _++_, flatten, map}
+use mathlib.Core.Bool.{cond, _&&_}
+use mathlib.Core.List.{List, [], _∷_, _++_}
 use Prim.Native.Nat.{ℕ, zero, suc, _+_, _*_, _<_, _≤_}
-use Prim.Native.String.{String}
-use lib.Dec.{leb, eqb}
+use lib.Dec.{eqb}
 use lib.ListN.{length, getD, take, drop}
 use Rattle.text.specs.Basic.{ascii}
 use Rattle.items.specs.Lines.{decimal, field}

@@ -1,10 +1,10 @@
 -- The items whose listing is written.
-use mathlib.Core.Path.{_≡_, refl}
+use mathlib.Core.Path.{_≡_}
 use mathlib.Core.Option.{Option, none, some}
-use mathlib.Core.List.{List, [], _++_}
+use mathlib.Core.List.{List, []}
 use Prim.Native.Nat.{ℕ}
 use Rattle.items.specs.Item.{Item}
-use Rattle.items.specs.Records.{words, bytes, Counts, countsOf, decoded, decoded-is}
+use Rattle.items.specs.Records.{Counts, countsOf, decoded}
 
 -- no items where there are none
 abbrev pub orNone : Option (List Item) → List Item
@@ -28,7 +28,3 @@ items-are rs ts n xs h = rw h
 -- records that decode to xs, with the counts of xs, are told
 pub told : (rs ts : List ℕ) (c : Counts) (xs : List Item) → decoded rs ts (c .records) ≡ some xs → c ≡ countsOf xs → Told rs ts c
 told rs ts c xs h e = let i = items-are rs ts (c .records) xs h in record { decodes = rw i h; counts = rw i e }
-
--- the records and texts of any items are told, whatever stands behind them
-pub items-told : (xs : List Item) (ws ts : List ℕ) → Told (words 0 xs ++ ws) (bytes xs ++ ts) (countsOf xs)
-items-told xs ws ts = told (words 0 xs ++ ws) (bytes xs ++ ts) (countsOf xs) xs (decoded-is xs ws ts) refl

@@ -1,4 +1,3 @@
-use mathlib.Core.Option.{some}
 use borrow.Author.Needs.{needs}
 use Rattle.formatter.proofs.Calls.{to-print, refuses-list, tells, lists, listing-short, stated-list}
 use Rattle.formatter.proofs.list_items.Statement.{statement}

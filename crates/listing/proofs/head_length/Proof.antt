@@ -1,6 +1,5 @@
 use native.Mathlib.Omega.{arith}
 use borrow.Author.Needs.{needs}
-use Rattle.items.specs.Lengths.{field-short}
 use Rattle.listing.proofs.Head.{four-short, head-long}
 use Rattle.listing.proofs.head_length.Statement.{statement}
 use Rattle.listing.proofs.head_length.Tie as tie

@@ -81,10 +81,13 @@ impl Comments {
     fn three_places(&mut self, number: usize, kind: u16, text: &str) {
         // Room for more than any comment gives.
         let bytes = 4 * text.len() + 16;
-        let words = 3 * bytes;
+        let room = Room {
+            words: 3 * bytes,
+            bytes,
+            listing: 0,
+        };
         for place in 0..3 {
             let original = print::comment(kind, text, place);
-            let room = Room { words, bytes };
             match self.buffers.comment((kind, text, place), room, &original) {
                 Ok(()) => self.report.same(),
                 Err(fault) => self.report.differs(text.len(), number, || {

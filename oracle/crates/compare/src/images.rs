@@ -44,37 +44,49 @@ impl Default for Images {
 
 /// The elements of an image, or which of the refusals 1 to 9 turns it away. The
 /// original has none of them: this is the oracle's own reading of document 01.
-fn tested(bytes: &[u8]) -> Result<Vec<Element>, Fault> {
+pub fn tested(bytes: &[u8]) -> Result<Vec<Element>, Fault> {
     let elements = image::read(bytes)?;
     limits::texts(&elements).map_or(Ok(elements), Err)
 }
 
+/// The records of an image by the original, or the number of the refusal and its
+/// element.
+pub fn printed(elements: Result<Vec<Element>, Fault>) -> Result<Records, (u32, usize)> {
+    match elements.map(|elements| print(&elements)) {
+        Ok(Printed::Items(records)) => Ok(records),
+        Ok(Printed::Panicked { element, .. }) => Err((10, element)),
+        Err(fault) => Err((fault.number, fault.element)),
+    }
+}
+
 /// A few cells more than are written.
-const MORE: usize = 5;
+pub const MORE: usize = 5;
 
 /// Words and bytes that suffice: just, or with a few cells more, in turn.
-fn enough(number: usize, records: &Records) -> Room {
-    let Room { words, bytes } = Room::of(records);
+pub fn enough(number: usize, records: &Records) -> Room {
+    let used = Room::of(records);
     let more = MORE * (number % 2);
     Room {
-        words: words + more,
-        bytes: bytes + more,
+        words: used.words + more,
+        bytes: used.bytes + more,
+        listing: 0,
     }
 }
 
 /// For every second image one byte less, one word less or both, in turn, with the
 /// refusal there. Where both are short, the records count.
 fn short(number: usize, records: &Records) -> Option<(Room, u32)> {
-    let Room { words, bytes } = Room::of(records);
+    let used = Room::of(records);
     let (fewer_words, fewer_bytes, refusal) = match number % 6 {
-        0 if bytes > 0 => (0, 1, 12),
-        2 if bytes > 0 => (1, 1, 11),
+        0 if used.bytes > 0 => (0, 1, 12),
+        2 if used.bytes > 0 => (1, 1, 11),
         0 | 2 | 4 => (1, 0, 11),
         _ => return None,
     };
     let room = Room {
-        words: words - fewer_words,
-        bytes: bytes - fewer_bytes,
+        words: used.words - fewer_words,
+        bytes: used.bytes - fewer_bytes,
+        listing: 0,
     };
     Some((room, refusal))
 }
@@ -85,22 +97,18 @@ impl Images {
     pub fn compare(&mut self, number: usize, bytes: &[u8]) {
         let elements = tested(bytes);
         self.test(number, bytes, &elements);
-        // For nothing: what is refused leaves the room as it is.
-        let unused = enough(number, &Records::default());
-        match elements.map(|elements| print(&elements)) {
-            Ok(Printed::Items(records)) => {
+        match printed(elements) {
+            Ok(records) => {
                 let room = enough(number, &records);
                 self.call(number, bytes, room, Answer::Printed(&records));
                 if let Some((room, refusal)) = short(number, &records) {
                     self.call(number, bytes, room, Answer::Refused(refusal, 0));
                 }
             }
-            Ok(Printed::Panicked { element, .. }) => {
-                self.call(number, bytes, unused, Answer::Refused(10, element));
-            }
-            Err(fault) => {
-                let answer = Answer::Refused(fault.number, fault.element);
-                self.call(number, bytes, unused, answer);
+            Err((refusal, element)) => {
+                // What is refused leaves the room as it is.
+                let room = enough(number, &Records::default());
+                self.call(number, bytes, room, Answer::Refused(refusal, element));
             }
         }
     }

@@ -27,6 +27,17 @@ unsafe extern "C" {
         texts_len: usize,
         values: &mut [u64; 5],
     ) -> u32;
+    fn tungvesk_list(
+        image: *const u8,
+        image_len: usize,
+        records: *mut u32,
+        records_len: usize,
+        texts: *mut u8,
+        texts_len: usize,
+        listing: *mut u8,
+        listing_len: usize,
+        values: &mut [u64; 6],
+    ) -> u32;
 }
 
 /// The number of a refusal, its element and 0, or 0 with N and B.
@@ -111,6 +122,8 @@ impl<T: Copy + PartialEq + fmt::Debug> Cells<T> {
 pub struct Room {
     pub words: usize,
     pub bytes: usize,
+    /// Only for the call that writes the listing.
+    pub listing: usize,
 }
 
 impl Room {
@@ -119,6 +132,7 @@ impl Room {
         Self {
             words: records.records.as_flattened().len(),
             bytes: records.texts.len(),
+            listing: 0,
         }
     }
 }
@@ -127,6 +141,7 @@ impl Room {
 pub struct Buffers {
     records: Cells<u32>,
     texts: Cells<u8>,
+    listing: Cells<u8>,
 }
 
 impl Default for Buffers {
@@ -134,16 +149,21 @@ impl Default for Buffers {
         Self {
             records: Cells::new(FILL),
             texts: Cells::new(BYTE),
+            listing: Cells::new(BYTE),
         }
     }
 }
 
 impl Buffers {
-    /// Whether a call in this room has written these records and nothing else.
-    fn compare(&mut self, room: Room, wanted: &Records) -> Result<(), String> {
-        let words = wanted.records.as_flattened();
+    /// Whether a call in this room has written the records that it is to give, and
+    /// nothing else.
+    fn compare(&mut self, room: Room, wanted: Answer) -> Result<(), String> {
+        let (words, bytes): (&[u32], &[u8]) = match wanted {
+            Answer::Printed(records) => (records.records.as_flattened(), &records.texts),
+            Answer::Refused(..) => (&[], &[]),
+        };
         let records = self.records.compare(room.words, words);
-        let texts = self.texts.compare(room.bytes, &wanted.texts);
+        let texts = self.texts.compare(room.bytes, bytes);
         records.map_err(|fault| format!("records: {fault}"))?;
         texts.map_err(|fault| format!("texts: {fault}"))
     }
@@ -172,13 +192,8 @@ impl Buffers {
                 &mut counts,
             )
         };
-        let cells = self.compare(room, wanted);
-        let expected = wanted.counts().map(|n| n as u32);
-        if (number, counts) != (0, expected) {
-            return Err(format!(
-                "{number} with {counts:?}, and not 0 with {expected:?}"
-            ));
-        }
+        let cells = self.compare(room, Answer::Printed(wanted));
+        same((number, counts), (0, wanted.counts().map(|n| n as u32)))?;
         cells
     }
 
@@ -203,20 +218,56 @@ impl Buffers {
 
     /// Compares the answer to an image, and every cell.
     pub fn print(&mut self, image: &[u8], room: Room, wanted: Answer) -> Result<(), String> {
-        let (number, values) = self.call(image, room);
-        let cells = match wanted {
-            Answer::Printed(records) => self.compare(room, records),
-            Answer::Refused(..) => self.compare(room, &Records::default()),
-        };
-        let expected = wanted.values();
-        if (number, values) != expected {
-            let (wanted, counts) = expected;
-            return Err(format!(
-                "{number} with {values:?}, and not {wanted} with {counts:?}"
-            ));
-        }
+        let ours = self.call(image, room);
+        let cells = self.compare(room, wanted);
+        same(ours, wanted.values())?;
         cells
     }
+
+    /// Compares the answer of the call that writes the listing too, and every cell.
+    /// Where it is refused the listing is empty.
+    pub fn list(
+        &mut self,
+        image: &[u8],
+        room: Room,
+        wanted: Answer,
+        listing: &[u8],
+    ) -> Result<(), String> {
+        let mut values = [u64::from(FILL); 6];
+        // The pointers and lengths are those of slices, and of cells that are
+        // lent, which live until the call ends; no two of them overlap.
+        let number = unsafe {
+            tungvesk_list(
+                image.as_ptr(),
+                image.len(),
+                self.records.lend(room.words),
+                room.words,
+                self.texts.lend(room.bytes),
+                room.bytes,
+                self.listing.lend(room.listing),
+                room.listing,
+                &mut values,
+            )
+        };
+        let cells = self.compare(room, wanted);
+        let lines = self.listing.compare(room.listing, listing);
+        let (expected, [a, b, c, d, element]) = wanted.values();
+        let length = listing.len() as u64;
+        same((number, values), (expected, [a, b, c, d, length, element]))?;
+        cells?;
+        lines.map_err(|fault| format!("listing: {fault}"))
+    }
+}
+
+/// Whether a call has answered with this number and these values.
+fn same<V: PartialEq + fmt::Debug>(ours: (u32, V), wanted: (u32, V)) -> Result<(), String> {
+    if ours == wanted {
+        return Ok(());
+    }
+    let ((number, values), (expected, counts)) = (ours, wanted);
+    Err(format!(
+        "{number} with {values:?}, and not {expected} with {counts:?}"
+    ))
 }
 
 #[cfg(test)]

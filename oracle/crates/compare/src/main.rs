@@ -15,6 +15,8 @@ mod images;
 mod inputs;
 #[cfg(library)]
 mod library;
+#[cfg(library)]
+mod listings;
 #[cfg_attr(not(library), allow(dead_code))]
 mod report;
 #[cfg(library)]
@@ -70,6 +72,7 @@ fn run(seed: u64, count: usize) -> Vec<Report> {
     vec![
         images.tests,
         images.answers,
+        listings::compare(&inputs),
         comments::of_images(&inputs),
         comments::exhaustive(),
     ]

@@ -1,7 +1,6 @@
 use native.Mathlib.Omega.{arith}
 use borrow.Author.Needs.{needs}
 use lib.ListN.{length-append}
-use Prim.Native.Nat.{ℕ}
 use mathlib.Core.List.{_∷_}
 use Rattle.text.specs.Basic.{ascii}
 use Rattle.items.specs.Lines.{decimal}
