@@ -5,8 +5,6 @@ use cases::long_field;
 use cases::long_field_end;
 use formatter::program::respond;
 use libc::STDOUT_FILENO;
-ghost use Prim.Native.Nat.{_≤_};
-ghost use lib.ListN.{length};
 ghost use Rattle.vectors.specs.Replies.{Replies};
 
 // Room for the file.
