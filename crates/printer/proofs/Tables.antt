@@ -65,7 +65,8 @@ want-kinds w e f g = rw (e, f, g)
 
 -- the entry of piece q in a table of six numbers each
 abbrev entryIn : List ℕ → ℕ → Entry
-entryIn ns q = record { given = getD ns (q * 6) 0; other = getD ns (q * 6 + 1) 0; unless = getD ns (q * 6 + 2) 0; what = getD ns (q * 6 + 3) 0; want = getD ns (q * 6 + 4) 0; word = getD ns (q * 6 + 5) 0 }
+entryIn ns q =
+    record { given = getD ns (q * 6) 0 - 48; other = getD ns (q * 6 + 1) 0 - 48; unless = getD ns (q * 6 + 2) 0 - 48; what = getD ns (q * 6 + 3) 0 - 48; want = getD ns (q * 6 + 4) 0 - 48; word = getD ns (q * 6 + 5) 0 - 48 }
 
 -- the greatest of its numbers of wanted parts
 abbrev wantMost : Entry → ℕ
@@ -75,21 +76,24 @@ wantMost x = max (x .given) (max (x .other) (max (x .unless) (x .want)))
 abbrev inTables : Entry → Bool
 inTables x = ltb (wantMost x) 34 && (ltb (x .word) 50 && settled x)
 
+-- so is each of them
+each-below : (a b c d : ℕ) → max a (max b (max c d)) < 34 → (a < 34) × (b < 34) × (c < 34) × (d < 34)
+each-below a b c d h = (omega arith, omega arith, omega arith, omega arith)
+
 -- the table's rule: its entries are the pieces of the rows in their order
 pub coded : {ns : List ℕ} {q : ℕ} {x : Entry} → EntryIn ns q x → q < 145 → tabled 145 (λ q. pieceOf (entryIn ns q)) 0 ≡ pieces → allBelow 145 (λ q. inTables (entryIn ns q)) ≡ true → Coded q x
 coded {ns} {q} {x} e h p b =
     let y = entryIn ns q in
     let (u, r) = and-true (ltb (wantMost y) 34) (ltb (y .word) 50 && settled y) (below 145 (λ q. inTables (entryIn ns q)) b q h) in
     let (v, g) = and-true (ltb (y .word) 50) (settled y) r in
-    let most = ltb-true (wantMost y) 34 u in
-    let last = ltb-true (y .word) 50 v in
+    let (i, j, k, l) = each-below (y .given) (y .other) (y .unless) (y .want) (ltb-true (wantMost y) 34 u) in
     record {
       piece = rw (e .given, e .other, e .unless, e .what, e .want, e .word) (sym (tabled-at (Layout.t "") 145 (λ q. pieceOf (entryIn ns q)) q h) ∙ ap (λ (l : List Layout.Piece). getD l q (Layout.t "")) p);
-      given = omega arith;
-      other = omega arith;
-      unless = omega arith;
-      want = omega arith;
-      word = omega arith;
+      given = rw (e .given) i;
+      other = rw (e .other) j;
+      unless = rw (e .unless) k;
+      want = rw (e .want) l;
+      word = rw (e .word) (ltb-true (y .word) 50 v);
       settles = rw (e .what, e .want, e .word) g;
     }
 

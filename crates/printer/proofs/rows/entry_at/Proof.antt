@@ -15,6 +15,7 @@ pub entry-at-spec : {M : Type 1} → statement M
 entry-at-spec =
     tie.close
     (tie.spec
+    (λ c. search needs)  -- slice-aggregate-table
     (λ c κs. search needs)  -- entry-in-requires
     returns  -- returns
     )
