@@ -59,7 +59,7 @@ pub enum Condition {
 }
 
 // The kinds of records.
-const TEXT: u32 = 1;
+pub const TEXT: u32 = 1;
 
 const NEW_LINE: u32 = 2;
 
@@ -87,7 +87,7 @@ const RUN_END: u32 = 13;
 
 const AGAIN: u32 = 14;
 
-const IF: u32 = 15;
+pub const IF: u32 = 15;
 
 const ELSE: u32 = 16;
 

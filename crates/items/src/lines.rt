@@ -1,21 +1,15 @@
 // The lines that list records: their lengths, and where the names in them start.
+use super::AGAIN;
+use super::IF;
+use super::MARK;
+use super::RUN;
+use super::TEXT;
 ghost use mathlib.Core.Path.{_≡_};
 ghost use Prim.Native.Nat.{_<_};
 ghost use lib.ListN.{length};
 ghost use Rattle.text.specs.Basic.{ascii};
 ghost use Rattle.items.specs.Lines.{decimal, field};
 ghost use Rattle.items.specs.Names.{nameAt, startOf, numbered, describedLength, lineLength};
-
-// The kinds of records that are more than a name and a number.
-pub const TEXT: u32 = 1;
-
-const MARK: u32 = 7;
-
-const RUN: u32 = 12;
-
-const AGAIN: u32 = 14;
-
-pub const IF: u32 = 15;
 
 // The first operand of a condition on lines.
 pub const LINES: u32 = 1;

@@ -1,12 +1,12 @@
 // The listing of records, written into a lent buffer.
 use items::Count;
-use items::lines::IF;
+use items::IF;
+use items::TEXT;
 use items::lines::IF_LINES;
 use items::lines::LINES;
 use items::lines::MARKS;
 use items::lines::RECORDS;
 use items::lines::RUNS;
-use items::lines::TEXT;
 use items::lines::TEXTS;
 use items::lines::field_length;
 use items::lines::is_numbered;
