@@ -66,7 +66,7 @@ want-kinds w e f g = rw (e, f, g)
 -- the entry of piece q in a table of six numbers each
 abbrev entryIn : List ℕ → ℕ → Entry
 entryIn ns q =
-    record { given = getD ns (q * 6) 0 - 48; other = getD ns (q * 6 + 1) 0 - 48; unless = getD ns (q * 6 + 2) 0 - 48; what = getD ns (q * 6 + 3) 0 - 48; want = getD ns (q * 6 + 4) 0 - 48; word = getD ns (q * 6 + 5) 0 - 48 }
+    record { given = getD ns (q * 6) 0 - 48; other = getD ns (q * 6 + 1) 0 - 49; unless = getD ns (q * 6 + 2) 0 - 50; what = getD ns (q * 6 + 3) 0 - 51; want = getD ns (q * 6 + 4) 0 - 52; word = getD ns (q * 6 + 5) 0 - 53 }
 
 -- the greatest of its numbers of wanted parts
 abbrev wantMost : Entry → ℕ

@@ -93,14 +93,14 @@ pieceAt q = getD pieces q (t "")
 abbrev pub settled : Entry → Bool
 settled x = cond (eqb (x .what) 4) (not (eqb (x .word) 0) || eqb (wantAt (x .want) .place) 0) (leb (x .what) 6 || eqb (x .word) 0)
 
--- The entry of piece q in a table of six numbers each.
+-- The entry of piece q in a table of six characters each, with a zero for each place.
 pub record EntryIn (ns : List ℕ) (q : ℕ) (x : Entry) : Type 0 where
   pub given : x .given ≡ getD ns (q * 6) 0 - 48
-  pub other : x .other ≡ getD ns (q * 6 + 1) 0 - 48
-  pub unless : x .unless ≡ getD ns (q * 6 + 2) 0 - 48
-  pub what : x .what ≡ getD ns (q * 6 + 3) 0 - 48
-  pub want : x .want ≡ getD ns (q * 6 + 4) 0 - 48
-  pub word : x .word ≡ getD ns (q * 6 + 5) 0 - 48
+  pub other : x .other ≡ getD ns (q * 6 + 1) 0 - 49
+  pub unless : x .unless ≡ getD ns (q * 6 + 2) 0 - 50
+  pub what : x .what ≡ getD ns (q * 6 + 3) 0 - 51
+  pub want : x .want ≡ getD ns (q * 6 + 4) 0 - 52
+  pub word : x .word ≡ getD ns (q * 6 + 5) 0 - 53
 
 -- The entry of piece q: what it means, and that its numbers are in the tables.
 pub record Coded (q : ℕ) (x : Entry) : Type 0 where

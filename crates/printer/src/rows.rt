@@ -278,11 +278,11 @@ pub fn row_of(k: u32) -> Extent
     }
 }
 
-// A number as it stands in the table of pieces: the character that lies so far behind `0`.
-fn value(b: u8) -> u32
-    ensures { λ r. ⌜ r ≡ b - 48 ⌝ }
+// A number as it stands in the table of pieces: the character that lies so far behind the zero of its place.
+fn value(b: u8, zero: u8) -> u32
+    ensures { λ r. ⌜ r ≡ b - zero ⌝ }
 {
-    if b < b'0' { 0 } else { (b - b'0') as u32 }
+    if b < zero { 0 } else { (b - zero) as u32 }
 }
 
 // The piece with a number in a table of pieces.
@@ -293,12 +293,12 @@ fn entry_in(table: &[u8], q: u32) -> Entry
 {
     let at = (q as usize) * SIZE;
     Entry {
-        given: value(table[at]),
-        other: value(table[at + 1]),
-        unless: value(table[at + 2]),
-        what: value(table[at + 3]),
-        want: value(table[at + 4]),
-        word: value(table[at + 5]),
+        given: value(table[at], b'0'),
+        other: value(table[at + 1], b'1'),
+        unless: value(table[at + 2], b'2'),
+        what: value(table[at + 3], b'3'),
+        want: value(table[at + 4], b'4'),
+        word: value(table[at + 5], b'5'),
     }
 }
 
@@ -307,18 +307,19 @@ pub fn entry_at(q: u32) -> Entry
     requires { ⌜ q < 145 ⌝ }
     ensures { λ r. ⌜ Coded q r ⌝ }
 {
-    // The pieces of all rows in the order of their kinds, six characters each, fifteen pieces a line.
+    // The pieces of all rows in the order of their kinds, six characters each, fifteen pieces a line. The compiler lays the string out
+    // where it is read, and does so in larger parts where no four characters in a row are equal; so each place has its own zero.
     let table: &[u8] =
-        b"00041?00000200042@00000200043?00044A00041?00041?00000200043?00000900041?00000:00045B00046C\
-          00047D00048E00000400041?0005920000050004:F00000200045B0004;G00000H00041?00000I0004<J=>000K\
-          =>04>J00000L0004?M00010000041?00000N00041?@0000O00000P0004;G@0000Q00000400041?0000050004AR\
-          0004BS0004CT00000=0001000004DU00000V00041?0004;G0004?M00000V00041?0004EW0004CT0004FX000700\
-          0004GY00000200041?0004FX0004?M0004GY00000200041?00000Z0004DU00000[00041?00000\\0004;G000005\
-          0004GY0000020004DU00000[00041?00000H00041?0004;G00000O0000040002000001000006H0000300000005\
-          0000070002000001000005I00004J0J001000003000000080004DU00000]0004;00004;000;45X00000400041?\
-          0000050004K000000400041000000^0004L0M0000^0004M000000500041?00041?;N04;G;N000V00041?000009\
-          0002000001000005O000030000000:0004DUN1000VN1041?00000100010000000<0004P_00000`00041?Q3000a\
-          Q3043?00041?00041?0004;GD0000a0004D010000V000410000001000100";
+        b"01275D01234701276E01234701277D01278F01275D01275D01234701277D01234>01275D01234?01279G0127:H\
+          0127;I0127<J01234901275D0128=701234:0127>K01234701279G0127?L01234M01275D01234N0127@O=?234P\
+          =?27BO01234Q0127CR01244501275D01234S01275D@1234T01234U0127?L@1234V01234901275D01234:0127EW\
+          0127FX0127GY01234B0124450127HZ01234[01275D0127?L0127CR01234[01275D0127I\\0127GY0127J]012:45\
+          0127K^01234701275D0127J]0127CR0127K^01234701275D01234_0127HZ01234`01275D01234a0127?L01234:\
+          0127K^0123470127HZ01234`01275D01234M01275D0127?L01234T0123490125450124450129L501264501234:\
+          01234<0125450124450128M50127N5J1244501264501234=0127HZ01234b0127?50127?501=79]01234901275D\
+          01234:0127O501234901275501234c0127P5M1234c0127Q501234:01275D01275D;O27?L;O234[01275D01234>\
+          0125450124450128S501264501234?0127HZN2234[N2275D01234601244501234A0127Td01234e01275DQ4234f\
+          Q4277D01275D01275D0127?LD1234f0127H511234[012755012346012445";
     entry_in(table, q)
 }
 
