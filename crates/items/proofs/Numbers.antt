@@ -50,6 +50,10 @@ under l f s n h k = omega arith
 beyond : (f s n : ℕ) → 2 ^ 32 ≤ n → 2 ^ 32 ≤ max f (max s n)
 beyond f s n h = omega arith
 
+-- the largest of three, compared one after another
+pub largest : (l f s : ℕ) {k m : ℕ} → k ≡ max f s → m ≡ max l k → m ≡ max l (max f s)
+largest l f s h i = rw (i, h)
+
 module _ (e : Entry) (c : Count) where
   abbrev line : ℕ
   line = lineOf e c

@@ -67,6 +67,11 @@ led-is : (b : ℕ) → b < 256 → led (leadLength b) (lowestTail b) (highestTai
 unfolding led sameOwed sameRanges leadLength follows lowestTail highestTail tails tailsFrom
 led-is b h = owed-same _ _ (below 256 (λ k. sameOwed (led (leadLength k) (lowestTail k) (highestTail k)) (follows k)) refl b h)
 
+-- an ASCII byte is a character by itself
+pub led-ascii : (b : ℕ) → b < 0x80 → owedOf (Tails 0 0x80 0xbf) ≡ follows b
+unfolding owedOf tailsFrom follows
+led-ascii b h = rw (le-leb 0 b (omega arith), le-leb b 0x7f (omega arith))
+
 pub led-wrong : (b n : ℕ) → b < 256 → n ≡ leadLength b → n ≡ 0 → owedOf Wrong ≡ follows b
 unfolding led owedOf
 led-wrong b n h e z = ap (λ (m : ℕ). led m (lowestTail b) (highestTail b)) (sym z ∙ e) ∙ led-is b h

@@ -39,9 +39,17 @@ fn highest_tail(lead: u8) -> u8
     }
 }
 
+// What a lead byte owes. Most bytes are ASCII: they owe nothing, and the table is not asked.
 fn after_lead(b: u8) -> Owed
     ensures { λ r. ⌜ owedOf r ≡ follows b ⌝ }
 {
+    if b < TAIL_LOW {
+        return Owed::Tails {
+            more: 0,
+            low: TAIL_LOW,
+            high: TAIL_HIGH,
+        };
+    }
     let n = lead_length(b);
     if n == 0 {
         return Owed::Wrong;

@@ -3,7 +3,7 @@ use Prim.Native.Nat.{_<_, _^_}
 use borrow.Author.Needs.{needs}
 use Rattle.items.specs.Decimals.{decimal-short}
 use Rattle.items.specs.Lengths.{described-small}
-use Rattle.items.proofs.Numbers.{brought-full, counts-are, counts-full, room-line}
+use Rattle.items.proofs.Numbers.{largest, brought-full, counts-are, counts-full, room-line}
 use Rattle.items.proofs.fitting.Statement.{statement}
 use Rattle.items.proofs.fitting.Tie as tie
 
@@ -27,7 +27,7 @@ returns-3 c =
     let k = m .before .before .before in
     let l = k .before .before in
     let i = l .before .before .before .before .before .before .before .before .before .before in
-    room-line _ _ (l .line-length .ensures) (cc) (i .if1 .left) (counts-are _ _ (l .line-length .ensures) (k .larger3 .ensures) (m .before .before .larger4 .ensures) (m .before .larger5 .ensures) (m .larger6 .ensures)) (c .if2 .left)
+    room-line _ _ (l .line-length .ensures) (largest _ _ _ (i .before .before .larger .ensures) (i .before .larger2 .ensures)) (i .if1 .left) (counts-are _ _ (l .line-length .ensures) (k .larger3 .ensures) (m .before .before .larger4 .ensures) (m .before .larger5 .ensures) (m .larger6 .ensures)) (c .if2 .left)
 
 pub fitting-spec : {M : Type 1} → statement M
 fitting-spec =
@@ -35,7 +35,7 @@ fitting-spec =
     (tie.spec
     (λ c κs. search needs)  -- larger-requires
     (λ c κs. search needs)  -- larger-requires-2
-    (λ c. brought-full _ _ (cc) (c .if1 .taken))  -- returns
+    (λ c. brought-full _ _ (largest _ _ _ (c .before .before .larger .ensures) (c .before .larger2 .ensures)) (c .if1 .taken))  -- returns
     (λ c. search needs)  -- cast-records
     (λ c. search needs)  -- add-records
     (λ c. search needs)  -- cast-texts
