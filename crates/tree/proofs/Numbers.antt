@@ -2,11 +2,13 @@
 use mathlib.Core.Path.{_≡_}
 use mathlib.Core.List.{List}
 use Prim.Native.Nat.{ℕ, _+_, _*_}
-use native.Mathlib.Omega.{arith}
 use native.Mathlib.Nat.{add-zero}
 use lib.ListN.{drop}
 use Rattle.tree.specs.Tree.{le16, le32}
-use Rattle.tree.specs.Image.{headerAt, kindIn, levelIn, sizeIn, le16-drop, le32-drop}
+use Rattle.tree.specs.Image.{headerAt, kindIn, levelIn, sizeIn, le16-drop, le32-drop, level-in, size-in}
+
+pub short-as : (s : List ℕ) (at : ℕ) {t : List ℕ} {n : ℕ} → t ≡ drop at s → n ≡ le16 t 0 → n ≡ le16 s at
+short-as s at p q = rw (q, p, le16-drop at s 0, add-zero at)
 
 pub number-as : (s : List ℕ) (at : ℕ) {t : List ℕ} {n : ℕ} → t ≡ drop at s → n ≡ le32 t 0 → n ≡ le32 s at
 number-as s at p q = rw (q, p, le32-drop at s 0, add-zero at)
@@ -17,8 +19,5 @@ header-as s at p q r u = rw (q, r, u, p, le16-drop at s 0, le16-drop at s 2, le3
 
 -- the element at its place in the image
 pub header-in : (image : List ℕ) (i : ℕ) → headerAt image (4 + 8 * i) ≡ record { kind = kindIn image i; level = levelIn image i; size = sizeIn image i }
-unfolding headerAt kindIn levelIn sizeIn
-header-in image i =
-    let l : 4 + 8 * i + 2 ≡ 6 + 8 * i = omega arith in
-    let z : 4 + 8 * i + 4 ≡ 8 + 8 * i = omega arith in
-    rw (l, z)
+unfolding headerAt kindIn
+header-in image i = rw (level-in image i, size-in image i)

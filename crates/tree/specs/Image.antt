@@ -61,17 +61,20 @@ kind-drop image i =
     let e : 4 + 8 * i + 0 ≡ 4 + 8 * i = omega arith in
     rw (le16-drop (4 + 8 * i) image 0, e)
 
-level-drop : (image : List ℕ) (i : ℕ) → le16 (drop (4 + 8 * i) image) 2 ≡ levelIn image i
+-- level and length stand behind the kind
+pub level-in : (image : List ℕ) (i : ℕ) → le16 image (4 + 8 * i + 2) ≡ levelIn image i
 unfolding levelIn
-level-drop image i =
-    let e : 4 + 8 * i + 2 ≡ 6 + 8 * i = omega arith in
-    rw (le16-drop (4 + 8 * i) image 2, e)
+level-in image i = ap (le16 image) (omega arith)
+
+pub size-in : (image : List ℕ) (i : ℕ) → le32 image (4 + 8 * i + 4) ≡ sizeIn image i
+unfolding sizeIn
+size-in image i = ap (le32 image) (omega arith)
+
+level-drop : (image : List ℕ) (i : ℕ) → le16 (drop (4 + 8 * i) image) 2 ≡ levelIn image i
+level-drop image i = le16-drop (4 + 8 * i) image 2 ∙ level-in image i
 
 size-drop : (image : List ℕ) (i : ℕ) → le32 (drop (4 + 8 * i) image) 4 ≡ sizeIn image i
-unfolding sizeIn
-size-drop image i =
-    let e : 4 + 8 * i + 4 ≡ 8 + 8 * i = omega arith in
-    rw (le32-drop (4 + 8 * i) image 4, e)
+size-drop image i = le32-drop (4 + 8 * i) image 4 ∙ size-in image i
 
 -- the elements from number i on
 elements-from : (image : List ℕ) (i : ℕ) → i ≤ countN image

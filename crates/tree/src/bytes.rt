@@ -6,9 +6,9 @@ ghost use Rattle.tree.specs.Tree.{byte, le16, le32};
 ghost use Rattle.tree.specs.Image.{headerAt};
 
 // Where level and length of an element stand behind its kind.
-const LEVEL: usize = 2;
+pub const LEVEL: usize = 2;
 
-const LENGTH: usize = 4;
+pub const LENGTH: usize = 4;
 
 // The eight bytes of an element.
 pub struct Header {
@@ -52,6 +52,13 @@ fn u32_at(s: &[u8], i: usize) -> u32
     ensures { λ r. ⌜ r ≡ le32 (now (s .entry)) i ⌝ }
 {
     u16_at(s, i) as u32 + 65536 * (u16_at(s, i + 2) as u32)
+}
+
+// The number whose two bytes stand at a place.
+pub fn short_at(s: &[u8], at: usize) -> u16
+    ensures { λ r. ⌜ r ≡ le16 (now (s .entry)) at ⌝ }
+{
+    u16_at(behind(s, at), 0)
 }
 
 // The number whose four bytes stand at a place.

@@ -1,6 +1,8 @@
 // An image's counts, elements and texts, each read at its place.
 use super::bytes;
 use super::bytes::Header;
+use super::bytes::LENGTH;
+use super::bytes::LEVEL;
 use super::reader;
 ghost use mathlib.Core.Path.{_≡_};
 ghost use Prim.Native.Nat.{_+_, _*_};
@@ -35,7 +37,7 @@ pub fn byte_count(image: &[u8]) -> u32
 }
 
 // Element i.
-fn element_of(image: &[u8], i: u32) -> Header
+pub fn element_of(image: &[u8], i: u32) -> Header
     ensures { λ r. ⌜ r ≡ record { kind = kindIn (now (image .entry)) i; level = levelIn (now (image .entry)) i; size = sizeIn (now (image .entry)) i } ⌝ }
 {
     reader::element_from(image, place_of(i))
@@ -44,19 +46,19 @@ fn element_of(image: &[u8], i: u32) -> Header
 pub fn kind_of(image: &[u8], i: u32) -> u16
     ensures { λ r. ⌜ r ≡ kindIn (now (image .entry)) i ⌝ }
 {
-    element_of(image, i).kind
+    reader::short_from(image, place_of(i))
 }
 
 pub fn level_of(image: &[u8], i: u32) -> u16
     ensures { λ r. ⌜ r ≡ levelIn (now (image .entry)) i ⌝ }
 {
-    element_of(image, i).level
+    reader::short_from(image, place_of(i) + LEVEL)
 }
 
 pub fn size_of(image: &[u8], i: u32) -> u32
     ensures { λ r. ⌜ r ≡ sizeIn (now (image .entry)) i ⌝ }
 {
-    element_of(image, i).size
+    reader::number_from(image, place_of(i) + LENGTH)
 }
 
 // The texts, joined.

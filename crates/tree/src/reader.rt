@@ -1,13 +1,13 @@
 // A reader: an image, and the place of what is read next. The checker covers no function over a struct that holds a
-// reference, so each of the first five here takes one step, and is proved by a walk of its operations. What is read at a
-// place are covered functions of a slice and a number (`bytes.rt`). The last three take an image and a place: whoever calls
+// reference, so each of the first six here takes one step, and is proved by a walk of its operations. What is read at a
+// place are covered functions of a slice and a number (`bytes.rt`). The last four take an image and a place: whoever calls
 // them has no reader and needs no walk.
 use super::bytes;
 use super::bytes::Header;
 ghost use mathlib.Core.Path.{_≡_};
 ghost use Prim.Native.Nat.{_+_, _-_, _<_, _^_};
 ghost use lib.ListN.{length};
-ghost use Rattle.tree.specs.Tree.{le32};
+ghost use Rattle.tree.specs.Tree.{le16, le32};
 ghost use Rattle.tree.specs.Image.{headerAt};
 
 pub struct Reader<'a> {
@@ -40,7 +40,14 @@ pub fn left<'a>(r: Reader<'a>) -> usize
     bytes::left_at(r.image, r.at)
 }
 
-// The number at the reader's place.
+// The number of two bytes at the reader's place.
+pub fn read_u16<'a>(r: Reader<'a>) -> u16
+    ensures { λ n. ⌜ n ≡ le16 (now (r .entry .image)) (r .entry .at) ⌝ }
+{
+    bytes::short_at(r.image, r.at)
+}
+
+// The number of four bytes at the reader's place.
 pub fn read_u32<'a>(r: Reader<'a>) -> u32
     ensures { λ n. ⌜ n ≡ le32 (now (r .entry .image)) (r .entry .at) ⌝ }
 {
@@ -61,7 +68,14 @@ pub fn left_from(image: &[u8], at: usize) -> usize
     left(skip(new(image), at))
 }
 
-// The number at a place of an image.
+// The number of two bytes at a place of an image.
+pub fn short_from(image: &[u8], at: usize) -> u16
+    ensures { λ n. ⌜ n ≡ le16 (now (image .entry)) at ⌝ }
+{
+    read_u16(skip(new(image), at))
+}
+
+// The number of four bytes at a place of an image.
 pub fn number_from(image: &[u8], at: usize) -> u32
     ensures { λ n. ⌜ n ≡ le32 (now (image .entry)) at ⌝ }
 {

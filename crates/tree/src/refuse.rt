@@ -91,23 +91,22 @@ pub fn unknown_kind(image: &[u8]) -> Found
 fn misplaced_at(image: &[u8], before: u32, i: u32) -> bool
     ensures { λ r. ⌜ r ≡ misplaced (elementIn (now (image .entry)) before) (elementIn (now (image .entry)) i) ⌝ }
 {
-    let kind = read::kind_of(image, i);
-    let level = read::level_of(image, i) as u32;
-    let parent = read::kind_of(image, before);
-    let above = read::level_of(image, before) as u32;
-    (kind == SOURCE_FILE)
+    let e = read::element_of(image, i);
+    let parent = read::element_of(image, before);
+    let level = e.level as u32;
+    let above = parent.level as u32;
+    (e.kind == SOURCE_FILE)
         | ((level == 0)
             | ((MAX_LEVEL < level)
-                | ((above + 1 < level) | ((FIRST_TOKEN <= parent) & (above < level)))))
+                | ((above + 1 < level) | ((FIRST_TOKEN <= parent.kind) & (above < level)))))
 }
 
 // The first element is not a SourceFile at level 0.
 fn starts_wrong(image: &[u8]) -> bool
     ensures { λ r. ⌜ r ≡ not (eqb (kindIn (now (image .entry)) 0) 1 && eqb (levelIn (now (image .entry)) 0) 0) ⌝ }
 {
-    let kind = read::kind_of(image, 0);
-    let level = read::level_of(image, 0);
-    !((kind == SOURCE_FILE) & (level == 0))
+    let e = read::element_of(image, 0);
+    !((e.kind == SOURCE_FILE) & (e.level == 0))
 }
 
 // 4: the first element that is where it may not be.
@@ -135,9 +134,8 @@ pub fn first_misplaced(image: &[u8]) -> Found
 fn node_with_text_at(image: &[u8], i: u32) -> bool
     ensures { λ r. ⌜ r ≡ nodeWithText (elementIn (now (image .entry)) i) ⌝ }
 {
-    let k = read::kind_of(image, i);
-    let size = read::size_of(image, i);
-    !(FIRST_TOKEN <= k) & (size != 0)
+    let e = read::element_of(image, i);
+    !(FIRST_TOKEN <= e.kind) & (e.size != 0)
 }
 
 // 5: the first node with a length other than 0.

@@ -1,6 +1,6 @@
-use mathlib.Core.Path.{ap}
+use mathlib.Core.Path.{_∙_}
 use borrow.Author.Needs.{needs}
-use Rattle.tree.specs.declared.bytes.Header.{Header}
+use Rattle.tree.specs.Image.{level-in}
 use Rattle.tree.proofs.read.level_of.Statement.{statement}
 use Rattle.tree.proofs.read.level_of.Tie as tie
 
@@ -8,6 +8,8 @@ pub level-of-spec : {M : Type 1} → statement M
 level-of-spec =
     tie.close
     (tie.spec
-    (λ c κs. search needs)  -- element-of-requires
-    (λ c. ap (λ (e : Header). e .level) (c .element-of .ensures))  -- returns
+    (λ c κs. search needs)  -- place-of-requires
+    (λ c. search needs)  -- add-short-from
+    (λ c κs. search needs)  -- short-from-requires
+    (λ c. rw (c .before .place-of .ensures) at (c .short-from .ensures) ∙ level-in _ _)  -- returns
     )

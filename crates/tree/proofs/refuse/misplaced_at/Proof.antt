@@ -8,12 +8,10 @@ unfolding misplaced
 misplaced-at-spec =
     tie.close
     (tie.spec
-    (λ c κs. search needs)  -- kind-of-requires
-    (λ c κs. search needs)  -- level-of-requires
+    (λ c κs. search needs)  -- element-of-requires
+    (λ c κs. search needs)  -- element-of-requires-2
     (λ c. search needs)  -- cast-level
-    (λ c κs. search needs)  -- kind-of-requires-2
-    (λ c κs. search needs)  -- level-of-requires-2
     (λ c. search needs)  -- cast-above
     (λ c. search needs)  -- add-result
-    (λ c. rw (← (c .before .before .before .kind-of .ensures), ← (c .before .before .level-of .ensures), ← (c .before .kind-of2 .ensures), ← (c .level-of2 .ensures)))  -- returns
+    (λ c. let d = c .before .before .before .before in rw (d .before .element-of .ensures, d .element-of2 .ensures))  -- returns
     )

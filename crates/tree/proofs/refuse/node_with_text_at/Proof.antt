@@ -8,7 +8,6 @@ unfolding nodeWithText
 node-with-text-at-spec =
     tie.close
     (tie.spec
-    (λ c κs. search needs)  -- kind-of-requires
-    (λ c κs. search needs)  -- size-of-requires
-    (λ c. rw (← (c .before .kind-of .ensures), ← (c .size-of .ensures)))  -- returns
+    (λ c κs. search needs)  -- element-of-requires
+    (λ c. rw (c .before .before .element-of .ensures))  -- returns
     )

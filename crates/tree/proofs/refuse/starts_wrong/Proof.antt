@@ -6,7 +6,6 @@ pub starts-wrong-spec : {M : Type 1} → statement M
 starts-wrong-spec =
     tie.close
     (tie.spec
-    (λ c κs. search needs)  -- kind-of-requires
-    (λ c κs. search needs)  -- level-of-requires
-    (λ c. rw (← (c .before .kind-of .ensures), ← (c .level-of .ensures)))  -- returns
+    (λ c κs. search needs)  -- element-of-requires
+    (λ c. rw (c .before .before .element-of .ensures))  -- returns
     )
