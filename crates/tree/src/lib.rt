@@ -8,6 +8,7 @@ mod reader;
 mod refuse;
 
 pub use read::element_count;
+use refuse::Test;
 ghost use mathlib.Core.Path.{_≡_};
 ghost use Rattle.tree.specs.Answer.{said, answer};
 
@@ -44,7 +45,7 @@ pub fn refusal(image: &[u8]) -> Tested
     if refuse::out_of_limits(image) {
         return Tested::OutOfLimits;
     }
-    let unknown = refuse::unknown_kind(image);
+    let unknown = refuse::first_where(image, Test::UnknownKind);
     if let Found::At(e) = unknown {
         return Tested::UnknownKind(e);
     }
@@ -56,15 +57,15 @@ pub fn refusal(image: &[u8]) -> Tested
     if let Found::At(e) = size {
         return Tested::WrongSize(e);
     }
-    let encoded = refuse::not_utf8(image);
+    let encoded = refuse::first_where(image, Test::NotUtf8);
     if let Found::At(e) = encoded {
         return Tested::NotUtf8(e);
     }
-    let block = refuse::string_block(image);
+    let block = refuse::first_where(image, Test::StringBlock);
     if let Found::At(e) = block {
         return Tested::StringBlock(e);
     }
-    let comment = refuse::first_misformed(image);
+    let comment = refuse::first_where(image, Test::Misformed);
     if let Found::At(e) = comment {
         return Tested::Misformed(e);
     }

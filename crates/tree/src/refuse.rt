@@ -1,4 +1,4 @@
-// The tests 1 to 9: one function for each that walks the elements, over one that looks at one of them.
+// The tests 1 to 9. Of those that look at one element at a time, `first_where` walks the elements for one of them.
 use super::ElementNumber;
 use super::Found;
 use super::read;
@@ -15,6 +15,7 @@ ghost use Rattle.tree.specs.Tree.{Element, countN, elementsOf};
 ghost use Rattle.tree.specs.Image.{kindIn, levelIn, startIn, elementIn};
 ghost use Rattle.tree.specs.Refusal.{wrongLength, outOfLimits, firstWhere, unknownKind, misplaced, firstMisplaced, nodeWithText, wrongSizes, notUtf8, stringBlock, misformed, noIdent, firstNameless};
 ghost use Rattle.tree.specs.Answer.{found};
+ghost use Rattle.tree.specs.Search.{testOf};
 
 const MAX_ELEMENTS: u32 = 4096;
 
@@ -44,6 +45,16 @@ const STRING_BLOCK: u16 = 82;
 
 const IDENT: u16 = 90;
 
+// A test that looks at one element: for one of an unknown kind (3), a node with a length (5), a token whose text is not valid
+// UTF-8 (6), a string block (7), a misformed comment (8).
+pub enum Test {
+    UnknownKind,
+    NodeWithText,
+    NotUtf8,
+    StringBlock,
+    Misformed,
+}
+
 // 1: the image is too short to read N or B, or its length is not 8 + 8N + B.
 pub fn wrong_length(image: &[u8]) -> bool
     ensures { λ r. ⌜ r ≡ wrongLength (now (image .entry)) ⌝ }
@@ -70,21 +81,6 @@ fn unknown_kind_at(image: &[u8], i: u32) -> bool
 {
     let k = read::kind_of(image, i);
     !(((FIRST_NODE <= k) & (k <= LAST_NODE)) | ((FIRST_TOKEN <= k) & (k <= LAST_TOKEN)))
-}
-
-// 3: the first element whose kind is not in the tables.
-pub fn unknown_kind(image: &[u8]) -> Found
-    ensures { λ r. ⌜ found r ≡ firstWhere unknownKind (elementsOf (now (image .entry))) ⌝ }
-{
-    let n = read::element_count(image);
-    let mut i = 0;
-    while i < n {
-        if unknown_kind_at(image, i) {
-            return Found::At(ElementNumber(i));
-        }
-        i += 1;
-    }
-    Found::Nothing
 }
 
 // Element i, behind the element before, is where no element may be.
@@ -138,50 +134,6 @@ fn node_with_text_at(image: &[u8], i: u32) -> bool
     !(FIRST_TOKEN <= e.kind) & (e.size != 0)
 }
 
-// 5: the first node with a length other than 0.
-fn node_with_text(image: &[u8]) -> Found
-    ensures { λ r. ⌜ found r ≡ firstWhere nodeWithText (elementsOf (now (image .entry))) ⌝ }
-{
-    let n = read::element_count(image);
-    let mut i = 0;
-    while i < n {
-        if node_with_text_at(image, i) {
-            return Found::At(ElementNumber(i));
-        }
-        i += 1;
-    }
-    Found::Nothing
-}
-
-// 5: the sum of the lengths.
-fn sum_of_sizes(image: &[u8]) -> usize
-    ensures { λ r. ⌜ r ≡ sum (λ (e : Element). e .size) (elementsOf (now (image .entry))) ⌝ }
-{
-    let n = read::element_count(image);
-    let mut total: usize = 0;
-    let mut i = 0;
-    while i < n {
-        total += read::size_of(image, i) as usize;
-        i += 1;
-    }
-    total
-}
-
-// 5: the first node with a length other than 0, or else N where the lengths do not add up to B.
-pub fn wrong_sizes(image: &[u8]) -> Found
-    ensures { λ r. ⌜ found r ≡ wrongSizes (now (image .entry)) (elementsOf (now (image .entry))) ⌝ }
-{
-    let node = node_with_text(image);
-    if let Found::At(_) = node {
-        return node;
-    }
-    if sum_of_sizes(image) == read::byte_count(image) as usize {
-        return Found::Nothing;
-    }
-    let n = read::element_count(image);
-    Found::At(ElementNumber(n))
-}
-
 // Element i is a token whose text is not valid UTF-8.
 fn not_utf8_at(image: &[u8], i: u32, at: usize) -> bool
     requires { ⌜ at ≡ startIn (now image) i ⌝ }
@@ -193,43 +145,11 @@ fn not_utf8_at(image: &[u8], i: u32, at: usize) -> bool
     !text::is_utf8(read::text_of(image, i, at))
 }
 
-// 6: the first token whose text is not valid UTF-8.
-pub fn not_utf8(image: &[u8]) -> Found
-    ensures { λ r. ⌜ found r ≡ firstWhere notUtf8 (elementsOf (now (image .entry))) ⌝ }
-{
-    let n = read::element_count(image);
-    let mut at: usize = 0;
-    let mut i = 0;
-    while i < n {
-        if not_utf8_at(image, i, at) {
-            return Found::At(ElementNumber(i));
-        }
-        at += read::size_of(image, i) as usize;
-        i += 1;
-    }
-    Found::Nothing
-}
-
 // Element i is a string block.
 fn string_block_at(image: &[u8], i: u32) -> bool
     ensures { λ r. ⌜ r ≡ stringBlock (elementIn (now (image .entry)) i) ⌝ }
 {
     read::kind_of(image, i) == STRING_BLOCK
-}
-
-// 7: the first string block.
-pub fn string_block(image: &[u8]) -> Found
-    ensures { λ r. ⌜ found r ≡ firstWhere stringBlock (elementsOf (now (image .entry))) ⌝ }
-{
-    let n = read::element_count(image);
-    let mut i = 0;
-    while i < n {
-        if string_block_at(image, i) {
-            return Found::At(ElementNumber(i));
-        }
-        i += 1;
-    }
-    Found::Nothing
 }
 
 // A multi-line comment is shorter than 4 bytes or lacks its opening or its end.
@@ -260,21 +180,64 @@ fn misformed_at(image: &[u8], i: u32, at: usize) -> bool
     false
 }
 
-// 8: the first misformed comment.
-pub fn first_misformed(image: &[u8]) -> Found
-    ensures { λ r. ⌜ found r ≡ firstWhere misformed (elementsOf (now (image .entry))) ⌝ }
+// Element i, whose text starts at place at of the texts, is what a test looks for.
+fn offends(image: &[u8], t: Test, i: u32, at: usize) -> bool
+    requires { ⌜ at ≡ startIn (now image) i ⌝ }
+    ensures { λ r. ⌜ r ≡ testOf t (elementIn (now (image .entry)) i) ⌝ }
+{
+    match t {
+        Test::UnknownKind => unknown_kind_at(image, i),
+        Test::NodeWithText => node_with_text_at(image, i),
+        Test::NotUtf8 => not_utf8_at(image, i, at),
+        Test::StringBlock => string_block_at(image, i),
+        Test::Misformed => misformed_at(image, i, at),
+    }
+}
+
+// The first element that is what a test looks for.
+pub fn first_where(image: &[u8], t: Test) -> Found
+    ensures { λ r. ⌜ found r ≡ firstWhere (testOf t) (elementsOf (now (image .entry))) ⌝ }
 {
     let n = read::element_count(image);
     let mut at: usize = 0;
     let mut i = 0;
     while i < n {
-        if misformed_at(image, i, at) {
+        if offends(image, t, i, at) {
             return Found::At(ElementNumber(i));
         }
         at += read::size_of(image, i) as usize;
         i += 1;
     }
     Found::Nothing
+}
+
+// 5: the sum of the lengths.
+fn sum_of_sizes(image: &[u8]) -> usize
+    ensures { λ r. ⌜ r ≡ sum (λ (e : Element). e .size) (elementsOf (now (image .entry))) ⌝ }
+{
+    let n = read::element_count(image);
+    let mut total: usize = 0;
+    let mut i = 0;
+    while i < n {
+        total += read::size_of(image, i) as usize;
+        i += 1;
+    }
+    total
+}
+
+// 5: the first node with a length other than 0, or else N where the lengths do not add up to B.
+pub fn wrong_sizes(image: &[u8]) -> Found
+    ensures { λ r. ⌜ found r ≡ wrongSizes (now (image .entry)) (elementsOf (now (image .entry))) ⌝ }
+{
+    let node = first_where(image, Test::NodeWithText);
+    if let Found::At(_) = node {
+        return node;
+    }
+    if sum_of_sizes(image) == read::byte_count(image) as usize {
+        return Found::Nothing;
+    }
+    let n = read::element_count(image);
+    Found::At(ElementNumber(n))
 }
 
 // Element i is an identifier at the level below a Name's.

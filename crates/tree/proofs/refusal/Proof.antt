@@ -28,7 +28,7 @@ image-3 c = image-2 (c .before .before .before)
 
 left-3 : (c : tie.After-enum-told) → Left (image-3 c) (drop 3 (tests (image-3 c)))
 unfolding tests
-left-3 c = at-none 3 (left-2 (c .before .before .before)) (c .before .before .unknown-kind .ensures) (c .enum-told .given .1)
+left-3 c = at-none 3 (left-2 (c .before .before .before)) (c .before .before .first-where .ensures) (c .enum-told .given .1)
 
 abbrev image-4 : tie.After-enum-told2 → List ℕ
 image-4 c = image-3 (c .before .before .before)
@@ -49,21 +49,21 @@ image-6 c = image-5 (c .before .before .before)
 
 left-6 : (c : tie.After-enum-told4) → Left (image-6 c) (drop 6 (tests (image-6 c)))
 unfolding tests
-left-6 c = at-none 6 (left-5 (c .before .before .before)) (c .before .before .not-utf8 .ensures) (c .enum-told4 .given .1)
+left-6 c = at-none 6 (left-5 (c .before .before .before)) (c .before .before .first-where2 .ensures) (c .enum-told4 .given .1)
 
 abbrev image-7 : tie.After-enum-told5 → List ℕ
 image-7 c = image-6 (c .before .before .before)
 
 left-7 : (c : tie.After-enum-told5) → Left (image-7 c) (drop 7 (tests (image-7 c)))
 unfolding tests
-left-7 c = at-none 7 (left-6 (c .before .before .before)) (c .before .before .string-block .ensures) (c .enum-told5 .given .1)
+left-7 c = at-none 7 (left-6 (c .before .before .before)) (c .before .before .first-where3 .ensures) (c .enum-told5 .given .1)
 
 abbrev image-8 : tie.After-enum-told6 → List ℕ
 image-8 c = image-7 (c .before .before .before)
 
 left-8 : (c : tie.After-enum-told6) → Left (image-8 c) (drop 8 (tests (image-8 c)))
 unfolding tests
-left-8 c = at-none 8 (left-7 (c .before .before .before)) (c .before .before .first-misformed .ensures) (c .enum-told6 .given .1)
+left-8 c = at-none 8 (left-7 (c .before .before .before)) (c .before .before .first-where4 .ensures) (c .enum-told6 .given .1)
 
 abbrev image-9 : tie.After-enum-told7 → List ℕ
 image-9 c = image-8 (c .before .before .before)
@@ -81,9 +81,9 @@ refusal-spec =
     (λ c. if-so 1 (left-all _) (c .before .wrong-length .ensures) (c .if1 .taken))  -- returns
     (λ c κs. search needs)  -- out-of-limits-requires
     (λ c. if-so 2 (left-1 (c .before .before)) (c .before .out-of-limits .ensures) (c .if2 .taken))  -- returns-2
-    (λ c κs. search needs)  -- unknown-kind-requires
+    (λ c κs. search needs)  -- first-where-requires
     (λ c. search needs)  -- enum-known-unknown
-    (λ c. at-one 3 (left-2 (c .before .before .before .before)) (c .before .before .before .unknown-kind .ensures) _ (c .before .unknown .given .1))  -- returns-3
+    (λ c. at-one 3 (left-2 (c .before .before .before .before)) (c .before .before .before .first-where .ensures) _ (c .before .unknown .given .1))  -- returns-3
     (λ c. search needs)  -- enum-told
     (λ c κs. search needs)  -- first-misplaced-requires
     (λ c. search needs)  -- enum-known-misplaced
@@ -93,17 +93,17 @@ refusal-spec =
     (λ c. search needs)  -- enum-known-size
     (λ c. at-one 5 (left-4 (c .before .before .before .before)) (c .before .before .before .wrong-sizes .ensures) _ (c .before .size .given .1))  -- returns-5
     (λ c. search needs)  -- enum-told-3
-    (λ c κs. search needs)  -- not-utf8-requires
+    (λ c κs. search needs)  -- first-where-requires-2
     (λ c. search needs)  -- enum-known-encoded
-    (λ c. at-one 6 (left-5 (c .before .before .before .before)) (c .before .before .before .not-utf8 .ensures) _ (c .before .encoded .given .1))  -- returns-6
+    (λ c. at-one 6 (left-5 (c .before .before .before .before)) (c .before .before .before .first-where2 .ensures) _ (c .before .encoded .given .1))  -- returns-6
     (λ c. search needs)  -- enum-told-4
-    (λ c κs. search needs)  -- string-block-requires
+    (λ c κs. search needs)  -- first-where-requires-3
     (λ c. search needs)  -- enum-known-block
-    (λ c. at-one 7 (left-6 (c .before .before .before .before)) (c .before .before .before .string-block .ensures) _ (c .before .block .given .1))  -- returns-7
+    (λ c. at-one 7 (left-6 (c .before .before .before .before)) (c .before .before .before .first-where3 .ensures) _ (c .before .block .given .1))  -- returns-7
     (λ c. search needs)  -- enum-told-5
-    (λ c κs. search needs)  -- first-misformed-requires
+    (λ c κs. search needs)  -- first-where-requires-4
     (λ c. search needs)  -- enum-known-comment
-    (λ c. at-one 8 (left-7 (c .before .before .before .before)) (c .before .before .before .first-misformed .ensures) _ (c .before .comment .given .1))  -- returns-8
+    (λ c. at-one 8 (left-7 (c .before .before .before .before)) (c .before .before .before .first-where4 .ensures) _ (c .before .comment .given .1))  -- returns-8
     (λ c. search needs)  -- enum-told-6
     (λ c κs. search needs)  -- first-nameless-requires
     (λ c. search needs)  -- enum-known-name
