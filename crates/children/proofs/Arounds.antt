@@ -14,7 +14,7 @@ use Rattle.tree.specs.declared.class.Class.the-variants as Class
 use Rattle.tree.specs.declared.class.Kinds.{Kinds}
 use Rattle.tree.specs.declared.Found.{Found}
 use Rattle.tree.specs.declared.Found.the-variants.{At, Nothing}
-use Rattle.tree.specs.declared.ElementNumber.{ElementNumber}
+use Rattle.numbers.specs.declared.Element.{Element}
 use Rattle.tree.specs.Class.{is, ofKind, oneOf, numberOf, allOf}
 use Rattle.tree.specs.Answer.{found}
 use Rattle.tree.specs.Index.{Region, kindAt, partAt, partsFrom, endAt}
@@ -27,7 +27,7 @@ use Rattle.children.proofs.Walks.{parts-more, all-more}
 
 -- ---- children_between
 
-module _ {f : Found} {n : ElementNumber} (q : f ≡ At n) where
+module _ {f : Found} {n : Element} (q : f ≡ At n) where
   pub from-some : (index : List ℕ) (a : ℕ) {r : ℕ} → r ≡ endAt index (n .0) → r ≡ fromAt index (found f) a
   from-some index a e = rw (q, e)
 
@@ -221,7 +221,7 @@ module _ {index text : List ℕ} {a b j : ℕ} (K : Heading index text a b j) wh
 -- ---- trivia_before and trivia_after
 
 module _ {index text : List ℕ} {a b : ℕ} {e : Found} (E : Ends index text a b (found e) none) where
-  module _ {n : ElementNumber} (q : e ≡ At n) where
+  module _ {n : Element} (q : e ≡ At n) where
     spot : Among (E .region) (n .0)
     spot = among (E .region) (E .starts (n .0) (rw q))
 

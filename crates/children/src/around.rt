@@ -1,7 +1,7 @@
 // trivia_before and trivia_after of a SourceFile.
 use super::turn::note_kinds;
 use super::turn::of_class;
-use tree::ElementNumber;
+use numbers::Element;
 use tree::Found;
 use tree::access::end_at;
 use tree::access::kind_at;
@@ -40,7 +40,7 @@ fn foreign_of(index: &[u32], text: &[u8], a: u32, b: u32) -> Found
     let mut j = a;
     while j < b {
         if !is_kept(kind_at(index, j)) {
-            return Found::At(ElementNumber(j));
+            return Found::At(Element(j));
         }
         j = end_at(index, j);
     }

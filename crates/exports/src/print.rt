@@ -17,7 +17,7 @@ struct Report {
     number: u32,
     counts: Count,
     bytes: usize,
-    element: usize,
+    element: u32,
 }
 
 // A refusal, with no counts.

@@ -13,7 +13,7 @@ use Rattle.items.specs.Lines.{recordLines}
 use Rattle.items.specs.Records.{words, bytes, Counts, countsOf, overlaid, decoded, decoded-is}
 use Rattle.items.specs.Machine.{State, halted, reached, run, seen, held, Prints, noCounts, starting}
 use Rattle.items.specs.Fitting.{Fits, run-room, run-empty, run-stopping, from-start, store-overlaid}
-use Rattle.items.specs.declared.Element.{Element}
+use Rattle.numbers.specs.declared.Element.{Element}
 use Rattle.items.specs.declared.Printed.{Printed as Run}
 use Rattle.items.specs.declared.Printed.the-variants.{Done, Stopped, Full}
 use Rattle.tree.specs.Tree.{countN, countB, treeOf}

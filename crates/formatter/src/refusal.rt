@@ -1,6 +1,5 @@
 // Why a tree was turned away.
-use items::Element;
-use tree::ElementNumber;
+use numbers::Element;
 ghost use mathlib.Core.Path.{_≡_};
 ghost use Rattle.formatter.specs.Told.{numberOf, elementOf};
 
@@ -8,13 +7,13 @@ ghost use Rattle.formatter.specs.Told.{numberOf, elementOf};
 pub enum Refusal {
     WrongLength,
     OutOfLimits,
-    UnknownKind(ElementNumber),
-    Misplaced(ElementNumber),
-    WrongSize(ElementNumber),
-    NotUtf8(ElementNumber),
-    StringBlock(ElementNumber),
-    Misformed(ElementNumber),
-    Nameless(ElementNumber),
+    UnknownKind(Element),
+    Misplaced(Element),
+    WrongSize(Element),
+    NotUtf8(Element),
+    StringBlock(Element),
+    Misformed(Element),
+    Nameless(Element),
     Stopped(Element),
     RecordsTooShort,
     TextsTooShort,
@@ -24,7 +23,7 @@ pub enum Refusal {
 // A refusal in numbers; the element is 0 if none is named.
 pub struct Numbered {
     pub number: u32,
-    pub element: usize,
+    pub element: u32,
 }
 
 fn whole(number: u32) -> Numbered
@@ -33,12 +32,12 @@ fn whole(number: u32) -> Numbered
     Numbered { number, element: 0 }
 }
 
-fn at(number: u32, e: ElementNumber) -> Numbered
+fn at(number: u32, e: Element) -> Numbered
     ensures { λ r. ⌜ r ≡ record { number = number; element = e .0 } ⌝ }
 {
     Numbered {
         number,
-        element: e.0 as usize,
+        element: e.0,
     }
 }
 
@@ -56,10 +55,7 @@ pub fn number_of(r: Refusal) -> Numbered
         Refusal::StringBlock(e) => at(7, e),
         Refusal::Misformed(e) => at(8, e),
         Refusal::Nameless(e) => at(9, e),
-        Refusal::Stopped(e) => Numbered {
-            number: 10,
-            element: e.0,
-        },
+        Refusal::Stopped(e) => at(10, e),
         Refusal::RecordsTooShort => whole(11),
         Refusal::TextsTooShort => whole(12),
         Refusal::ListingTooShort => whole(13),

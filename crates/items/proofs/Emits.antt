@@ -14,9 +14,9 @@ use lib.ListN.{length}
 use Rattle.items.specs.declared.Condition.{Condition}
 use Rattle.items.specs.declared.Condition.the-variants.{Always, Lines}
 use Rattle.items.specs.declared.Count.{Count}
-use Rattle.items.specs.declared.Element.{Element}
+use Rattle.numbers.specs.declared.Element.{Element}
 use Rattle.items.specs.declared.Entry.{Entry}
-use Rattle.items.specs.declared.Mark.{Mark}
+use Rattle.numbers.specs.declared.Mark.{Mark}
 use Rattle.items.specs.declared.Printed.{Printed}
 use Rattle.items.specs.declared.Printed.the-variants.{Done, Stopped, Full}
 use Rattle.items.specs.declared.Signal.{Signal}

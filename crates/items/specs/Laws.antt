@@ -4,7 +4,7 @@ use mathlib.Core.Option.{Option, some}
 use mathlib.Core.Option.{none as nothing}
 use mathlib.Core.List.{List, [], _∷_, _++_}
 use Prim.Native.Nat.{ℕ}
-use Rattle.items.specs.declared.Element.{Element}
+use Rattle.numbers.specs.declared.Element.{Element}
 use Rattle.items.specs.declared.Printed.{Printed}
 use Rattle.items.specs.declared.Printed.the-variants.{Done, Stopped, Full}
 use Rattle.items.specs.Item.{Item, Out, stop, ok, Print, after, next, _⨟_, none, say, says, numbered}

@@ -1,6 +1,9 @@
 // Print items, written as records into lent buffers.
 pub mod lines;
 
+use numbers::Element;
+use numbers::Mark;
+use numbers::Run;
 ghost use mathlib.Core.Path.{_≡_};
 ghost use mathlib.Core.List.{List};
 ghost use Prim.Native.Nat.{ℕ, max};
@@ -11,15 +14,6 @@ ghost use Rattle.items.specs.Records.{recordOf};
 ghost use Rattle.items.specs.Machine.{held, Prints, store, storeRecord, nextRun, noCounts};
 ghost use Rattle.items.specs.Entry.{Emitted, InRange, entryOf, grownWith, plainEntry, roomFor, storeEntry};
 ghost use Rattle.items.specs.declared.Printed.the-variants.{Done};
-
-// The number of a line mark: run k has the marks 2k and 2k + 1.
-pub struct Mark(pub u64);
-
-// The number of a run.
-pub struct Run(pub u32);
-
-// The number of an element of the tree.
-pub struct Element(pub usize);
 
 // What was printed so far: records, bytes of their texts, runs and marks, and bytes of the lines that list the records.
 pub struct Count {

@@ -178,13 +178,13 @@ pub fn write_listing(records: &[u32], texts: &[u8], c: Count, out: &mut [u8]) ->
 }
 
 // Writes the line of a refusal, as far as there is room, and gives its length.
-pub fn write_refused(number: u32, element: usize, out: &mut [u8]) -> usize
+pub fn write_refused(number: u32, element: u32, out: &mut [u8]) -> usize
     ensures { λ r. ⌜ Writes (refusedLine number element) (page (now (out .entry)) 0) (page (now (out .exit)) r) ⌝ }
 {
     let named = put_bytes(out, 0, b"refused ");
     let numbered = put_decimal(out, named, number as usize);
     let parted = put_byte(out, numbered, b' ');
-    let told = put_decimal(out, parted, element);
+    let told = put_decimal(out, parted, element as usize);
     put_byte(out, told, b'\n')
 }
 

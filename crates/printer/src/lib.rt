@@ -11,7 +11,6 @@ use children::around::trivia_after;
 use children::around::trivia_before;
 use children::print::print_notes;
 use comments::CommentLocation;
-use items::Element;
 use items::Printed;
 use items::Signal;
 use items::print_signal;
@@ -56,11 +55,11 @@ pub fn print_source(
     let after = trivia_after(index, image, e, a, b);
     let f = before.foreign;
     if let Found::At(x) = f {
-        return stop_at(Element(x.0 as usize), p);
+        return stop_at(x, p);
     }
     let g = after.foreign;
     if let Found::At(x) = g {
-        return stop_at(Element(x.0 as usize), p);
+        return stop_at(x, p);
     }
     print_whole(records, texts, image, index, e, before, after, p)
 }

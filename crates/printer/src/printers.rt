@@ -51,13 +51,13 @@ use children::survey::survey;
 use children::survey::survey_after;
 use comments::CommentLocation;
 use items::Condition;
-use items::Element;
 use items::Printed;
 use items::Signal;
 use items::next_run;
 use items::print_signal;
 use items::print_text;
 use items::stop_at;
+use numbers::Element;
 use tree::Found;
 use tree::access::end_at;
 use tree::access::kind_at;
@@ -381,7 +381,7 @@ fn values(
     let w = kinds_of(c);
     let o = survey(index, image, w, z.loose, z.from, z.to);
     if o.last.end != AT_END {
-        return stop_at(Element(o.last.to as usize), p);
+        return stop_at(Element(o.last.to), p);
     }
     let mut s = gap(index, image, w, z.loose, false, z.from, z.to);
     let mut q = p;
@@ -497,7 +497,7 @@ fn list(
     let c = child_class(l);
     let o = survey(index, image, kinds_of(c), z.loose, z.from, z.to);
     if o.last.end != AT_END {
-        return stop_at(Element(o.last.to as usize), p);
+        return stop_at(Element(o.last.to), p);
     }
     if is_empty(image, index, o) {
         return print_word(records, texts, empty_word(l), p);
@@ -525,7 +525,7 @@ fn args(
     let z = enclosed(image, index, i, Class::LParen, Class::RParen);
     let o = survey(index, image, kinds_of(Class::Arg), z.loose, z.from, z.to);
     if o.last.end != AT_END {
-        return stop_at(Element(o.last.to as usize), p);
+        return stop_at(Element(o.last.to), p);
     }
     let k = next_run(p);
     let t = test_of(false, k);
@@ -559,14 +559,14 @@ fn comp(
 {
     let spec = first_of(image, index, i, Class::CompSpec);
     if is_nothing(spec) {
-        return stop_at(Element(i as usize), p);
+        return stop_at(Element(i), p);
     }
     let brace = first_of(image, index, i, Class::LBrace);
     let a = first_in(image, index, i);
     let y = bounds_between(index, image, brace, spec, a, end_at(index, i));
     let m = survey(index, image, kinds_of(Class::Member), y.loose, y.from, y.to);
     if m.last.end != AT_END {
-        return stop_at(Element(m.last.to as usize), p);
+        return stop_at(Element(m.last.to), p);
     }
     body(records, texts, image, index, i, y, m, p)
 }
@@ -591,7 +591,7 @@ fn body(
     let w = kinds_of(Class::CompSpec);
     let o = survey_after(index, image, w, z.loose, m.last, z.from, z.to);
     if o.last.end != AT_END {
-        return stop_at(Element(o.last.to as usize), p);
+        return stop_at(Element(o.last.to), p);
     }
     let k = next_run(p);
     let t = test_of(m.many | (o.many | (m.blank | o.blank)), k);
@@ -699,7 +699,7 @@ fn binds(
     let z = enclosed(image, index, i, Class::Local, Class::Semi);
     let o = survey(index, image, kinds_of(Class::Bind), z.loose, z.from, z.to);
     if o.last.end != AT_END {
-        return stop_at(Element(o.last.to as usize), p);
+        return stop_at(Element(o.last.to), p);
     }
     if o.children == 1 {
         return lone(records, texts, image, index, i, z, p);

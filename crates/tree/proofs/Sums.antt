@@ -11,7 +11,7 @@ use Rattle.tree.specs.Tree.{Element, countN, countB, elementsOf}
 use Rattle.tree.specs.Image.{sizeIn, startIn, sizes-all}
 use Rattle.tree.specs.Refusal.{firstWhere, nodeWithText, wrongSizes}
 use Rattle.tree.specs.Answer.{found}
-use Rattle.tree.specs.declared.ElementNumber.{ElementNumber}
+use Rattle.numbers.specs.declared.Element as number
 use Rattle.tree.specs.declared.Found.{Found}
 use Rattle.tree.specs.declared.Found.the-variants.{At, Nothing}
 
@@ -37,7 +37,7 @@ summing-all {image} {total} {i} s e h =
 -- ---- test 5, from its two halves
 
 module _ (image : List ℕ) (f : Found) (e : found f ≡ firstWhere nodeWithText (elementsOf image)) where
-  pub sizes-node : (x : ElementNumber) → f ≡ At x → found f ≡ wrongSizes image (elementsOf image)
+  pub sizes-node : (x : number.Element) → f ≡ At x → found f ≡ wrongSizes image (elementsOf image)
   unfolding wrongSizes
   sizes-node x h = rw (← e, h)
 

@@ -7,7 +7,7 @@ use Prim.Native.Nat.{ℕ}
 use Rattle.tree.specs.Tree.{countN, countB}
 use Rattle.tree.specs.Refusal.{Refusal, refusedAt, refusedIf, tests, firstOf, refusal}
 use Rattle.tree.specs.Answer.{found, refused, passed, answer}
-use Rattle.tree.specs.declared.ElementNumber.{ElementNumber}
+use Rattle.numbers.specs.declared.Element.{Element}
 use Rattle.tree.specs.declared.Found.{Found}
 use Rattle.tree.specs.declared.Found.the-variants.{At, Nothing}
 
@@ -38,6 +38,6 @@ module _ {image : List ℕ} {ts : List (Option Refusal)} (k : ℕ) where
     unfolding firstOf
     at-none h = record { still = rw (← e, h) at (l .still) }
 
-    pub at-one : (x : ElementNumber) → f ≡ At x → refused (record { number = k; element = x .0 }) ≡ answer image
+    pub at-one : (x : Element) → f ≡ At x → refused (record { number = k; element = x .0 }) ≡ answer image
     unfolding answer firstOf
     at-one x h = rw (l .still, ← e, h)

@@ -1,11 +1,11 @@
 // Reading the index: an element's numbers and text, and the parts of a region by their kinds.
-use super::ElementNumber;
 use super::Found;
 use super::bytes;
 use super::class::Class;
 use super::class::Kinds;
 use super::class::is;
 use super::class::kinds_of;
+use numbers::Element;
 ghost use mathlib.Core.Path.{_≡_};
 ghost use mathlib.Core.Bool.{cond};
 ghost use mathlib.Core.Option.{some};
@@ -109,7 +109,7 @@ pub fn nth_of(index: &[u32], text: &[u8], w: Kinds, n: u32, a: u32, b: u32) -> F
     while j < b {
         let counts = is(w, kind_at(index, j));
         if counts & (left == 0) {
-            return Found::At(ElementNumber(j));
+            return Found::At(Element(j));
         }
         left = count_down(left, counts);
         j = end_at(index, j);
@@ -121,11 +121,7 @@ pub fn nth_of(index: &[u32], text: &[u8], w: Kinds, n: u32, a: u32, b: u32) -> F
 fn later(last: Found, counts: bool, j: u32) -> Found
     ensures { λ r. ⌜ found r ≡ cond counts (some j) (found last) ⌝ }
 {
-    if counts {
-        Found::At(ElementNumber(j))
-    } else {
-        last
-    }
+    if counts { Found::At(Element(j)) } else { last }
 }
 
 // The last part of these kinds of the siblings from a on that begin before b.
@@ -150,7 +146,7 @@ pub fn plus_of(index: &[u32], text: &[u8], a: u32, b: u32) -> Found
     let mut j = a;
     while j < b {
         if is_plus(index, text, j) {
-            return Found::At(ElementNumber(j));
+            return Found::At(Element(j));
         }
         j = end_at(index, j);
     }

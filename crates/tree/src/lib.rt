@@ -7,17 +7,15 @@ mod read;
 mod reader;
 mod refuse;
 
+use numbers::Element;
 pub use read::element_count;
 use refuse::Test;
 ghost use mathlib.Core.Path.{_≡_};
 ghost use Rattle.tree.specs.Answer.{said, answer};
 
-// The number of an element.
-pub struct ElementNumber(pub u32);
-
 // The element that was looked for.
 pub enum Found {
-    At(ElementNumber),
+    At(Element),
     Nothing,
 }
 
@@ -25,13 +23,13 @@ pub enum Found {
 pub enum Tested {
     WrongLength,
     OutOfLimits,
-    UnknownKind(ElementNumber),
-    Misplaced(ElementNumber),
-    WrongSize(ElementNumber),
-    NotUtf8(ElementNumber),
-    StringBlock(ElementNumber),
-    Misformed(ElementNumber),
-    Nameless(ElementNumber),
+    UnknownKind(Element),
+    Misplaced(Element),
+    WrongSize(Element),
+    NotUtf8(Element),
+    StringBlock(Element),
+    Misformed(Element),
+    Nameless(Element),
     Accepted { elements: u32, bytes: u32 },
 }
 

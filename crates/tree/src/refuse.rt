@@ -1,9 +1,9 @@
 // The tests 1 to 9. Of those that look at one element at a time, `first_where` walks the elements for one of them.
-use super::ElementNumber;
 use super::Found;
 use super::read;
 use super::read::COUNT;
 use super::reader;
+use numbers::Element;
 ghost use mathlib.Core.Path.{_≡_};
 ghost use mathlib.Core.Bool.{not, _&&_, _||_};
 ghost use Prim.Native.Nat.{_+_, _<_, suc};
@@ -11,7 +11,8 @@ ghost use lib.Dec.{eqb, ltb};
 ghost use lib.ListN.{length, drop};
 ghost use Rattle.text.specs.Basic.{sum, ascii, startsWith};
 ghost use Rattle.text.specs.Text.{endsWith};
-ghost use Rattle.tree.specs.Tree.{Element, countN, elementsOf};
+ghost use Rattle.tree.specs.Tree;
+ghost use Rattle.tree.specs.Tree.{countN, elementsOf};
 ghost use Rattle.tree.specs.Image.{kindIn, levelIn, startIn, elementIn};
 ghost use Rattle.tree.specs.Refusal.{wrongLength, outOfLimits, firstWhere, unknownKind, misplaced, firstMisplaced, nodeWithText, wrongSizes, notUtf8, stringBlock, misformed, noIdent, firstNameless};
 ghost use Rattle.tree.specs.Answer.{found};
@@ -114,12 +115,12 @@ pub fn first_misplaced(image: &[u8]) -> Found
         return Found::Nothing;
     }
     if starts_wrong(image) {
-        return Found::At(ElementNumber(0));
+        return Found::At(Element(0));
     }
     let mut i = 1;
     while i < n {
         if misplaced_at(image, i - 1, i) {
-            return Found::At(ElementNumber(i));
+            return Found::At(Element(i));
         }
         i += 1;
     }
@@ -203,7 +204,7 @@ pub fn first_where(image: &[u8], t: Test) -> Found
     let mut i = 0;
     while i < n {
         if offends(image, t, i, at) {
-            return Found::At(ElementNumber(i));
+            return Found::At(Element(i));
         }
         at += read::size_of(image, i) as usize;
         i += 1;
@@ -213,7 +214,7 @@ pub fn first_where(image: &[u8], t: Test) -> Found
 
 // 5: the sum of the lengths.
 fn sum_of_sizes(image: &[u8]) -> usize
-    ensures { λ r. ⌜ r ≡ sum (λ (e : Element). e .size) (elementsOf (now (image .entry))) ⌝ }
+    ensures { λ r. ⌜ r ≡ sum (λ (e : Tree.Element). e .size) (elementsOf (now (image .entry))) ⌝ }
 {
     let n = read::element_count(image);
     let mut total: usize = 0;
@@ -237,7 +238,7 @@ pub fn wrong_sizes(image: &[u8]) -> Found
         return Found::Nothing;
     }
     let n = read::element_count(image);
-    Found::At(ElementNumber(n))
+    Found::At(Element(n))
 }
 
 // Element i is an identifier at the level below a Name's.
@@ -287,7 +288,7 @@ pub fn first_nameless(image: &[u8]) -> Found
     let mut i = 0;
     while i < n {
         if nameless_at(image, i) {
-            return Found::At(ElementNumber(i));
+            return Found::At(Element(i));
         }
         i += 1;
     }

@@ -37,7 +37,7 @@ struct Answer {
     element: usize,
 }
 
-fn refused(number: usize, e: tree::ElementNumber) -> Answer {
+fn refused(number: usize, e: numbers::Element) -> Answer {
     Answer {
         number,
         element: e.0 as usize,

@@ -9,23 +9,23 @@ use Rattle.printer.proofs.print_source.Tie as tie
 
 returns : tie.Need-returns
 returns c =
-    let t = c .before .before .before .before .before in
+    let t = c .before .before .before .before in
     let r = t .before in
     let e = r .before in
     let a = e .before in
     let f = a .before in
     let s = f .before .before .before .before .before in
-    by (source-before (s .pre) (a .first-in .ensures) (e .end-at .ensures) (f .first-of .ensures) _ _ (r .trivia-before .ensures) (t .trivia-after .ensures) (ap found (c .before .before .before .f .given .1))) (c .stop-at .ensures _ _)
+    by (source-before (s .pre) (a .first-in .ensures) (e .end-at .ensures) (f .first-of .ensures) _ _ (r .trivia-before .ensures) (t .trivia-after .ensures) (ap found (c .before .before .f .given .1))) (c .stop-at .ensures _ _)
 
 returns-2 : tie.Need-returns-2
 returns-2 c =
-    let t = c .before .before .before .before .before .before .before in
+    let t = c .before .before .before .before .before .before in
     let r = t .before in
     let e = r .before in
     let a = e .before in
     let f = a .before in
     let s = f .before .before .before .before .before in
-    by (source-behind (s .pre) (a .first-in .ensures) (e .end-at .ensures) (f .first-of .ensures) _ _ (r .trivia-before .ensures) (t .trivia-after .ensures) (ap found (c .before .before .before .before .before .enum-told .given .1)) (ap found (c .before .before .before .g .given .1))) (c .stop-at2 .ensures _ _)
+    by (source-behind (s .pre) (a .first-in .ensures) (e .end-at .ensures) (f .first-of .ensures) _ _ (r .trivia-before .ensures) (t .trivia-after .ensures) (ap found (c .before .before .before .before .enum-told .given .1)) (ap found (c .before .before .g .given .1))) (c .stop-at2 .ensures _ _)
 
 returns-3 : tie.Need-returns-3
 returns-3 c =
@@ -57,12 +57,10 @@ print-source-spec =
     (λ c κs. ends-has (root-at (c .before .before .before .before .before .before .before .pre)) (c .before .first-in .ensures) (c .end-at .ensures) (first-has _ _ (c .before .before .first-of .ensures)) (none-has _ refl))  -- trivia-before-requires
     (λ c κs. ends-has (root-at (c .before .before .before .before .before .before .before .before .pre)) (c .before .before .first-in .ensures) (c .before .end-at .ensures) (first-has _ _ (c .before .before .before .first-of .ensures)) (none-has _ refl))  -- trivia-after-requires
     (λ c. search needs)  -- enum-known-f
-    (λ c. search needs)  -- cast-t16
     (λ c κs. search needs)  -- stop-at-requires
     returns  -- returns
     (λ c. search needs)  -- enum-told
     (λ c. search needs)  -- enum-known-g
-    (λ c. search needs)  -- cast-t18
     (λ c κs. search needs)  -- stop-at-requires-2
     returns-2  -- returns-2
     (λ c. search needs)  -- enum-told-2

@@ -5,8 +5,8 @@ use Rattle.exports.proofs.print.tungvesk_list.Tie as tie
 
 returns : tie.Need-returns
 returns c =
-    let p = c .before .before .before .before .before .before .before .before .before .before .before .list-items .ensures in
-    let r = c .before .before .before .before .report-listed .ensures in
+    let p = c .before .before .before .before .before .before .before .before .before .before .before .before .list-items .ensures in
+    let r = c .before .before .before .before .before .report-listed .ensures in
     rw (← (p .0), ← (r .numbered), ← (r .listed)) (refl, (refl, (p .1 .0, (p .1 .1 .0, p .1 .1 .1 .0))))
 
 pub tungvesk-list-spec : {M : Type 1} → statement M
@@ -24,6 +24,7 @@ tungvesk-list-spec =
     (λ c. search needs)  -- cast-counts-4
     (λ c. search needs)  -- element-write-counts-4
     (λ c. search needs)  -- element-write-counts-5
+    (λ c. search needs)  -- cast-counts-5
     (λ c. search needs)  -- element-write-counts-6
     (λ c. search needs)  -- same-length
     (λ c. search needs)  -- same-length-2

@@ -26,6 +26,7 @@ number-of-spec =
     (λ c. search needs)  -- enum-known-r-7
     (λ c κs. search needs)  -- at-requires-7
     (λ c. search needs)  -- enum-known-r-8
+    (λ c κs. search needs)  -- at-requires-8
     (λ c. search needs)  -- enum-told-3
     (λ c κs. search needs)  -- whole-requires-3
     (λ c. search needs)  -- enum-told-4

@@ -13,7 +13,7 @@ use Rattle.printer.proofs.printers.+arg+args+bind+binds+body+child+comp
 
 returns : (t : ℕ) → lts.Need-returns (args-claims t) (args-at t) args.Post
 returns t c =
-    let i1 = c .before .before in
+    let i1 = c .before in
     let o = i1 .before .before in
     let w = o .before in
     let z = w .before in
@@ -53,7 +53,6 @@ args-closed t =
     (λ c κs. search needs)  -- enclosed-requires
     (λ c κs. search needs)  -- kinds-of-requires
     (λ c κs. c .before .enclosed .ensures .region)  -- survey-requires
-    (λ c. search needs)  -- cast-t17
     (λ c κs. search needs)  -- stop-at-requires
     (returns t)  -- returns
     (λ c κs. search needs)  -- next-run-requires

@@ -15,7 +15,7 @@ use Rattle.printer.proofs.printers.+arg+args+bind+binds+body+child+comp
 
 returns : (t : ℕ) → lts.Need-returns (binds-claims t) (binds-at t) binds.Post
 returns t c =
-    let i1 = c .before .before in
+    let i1 = c .before in
     let o = i1 .before .before in
     let w = o .before in
     let z = w .before in
@@ -67,7 +67,6 @@ binds-closed t =
     (λ c κs. search needs)  -- enclosed-requires
     (λ c κs. search needs)  -- kinds-of-requires
     (λ c κs. c .before .enclosed .ensures .region)  -- survey-requires
-    (λ c. search needs)  -- cast-t15
     (λ c κs. search needs)  -- stop-at-requires
     (returns t)  -- returns
     (lone-asked t)  -- lone-requires

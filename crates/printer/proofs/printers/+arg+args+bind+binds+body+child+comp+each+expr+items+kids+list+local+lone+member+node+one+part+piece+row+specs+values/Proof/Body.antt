@@ -12,7 +12,7 @@ use Rattle.printer.proofs.printers.+arg+args+bind+binds+body+child+comp
 
 returns : (t : ℕ) → lts.Need-returns (body-claims t) (body-at t) body.Post
 returns t c =
-    let i1 = c .before .before in
+    let i1 = c .before in
     let o = i1 .before .before in
     let w = o .before in
     let z = w .before in
@@ -61,7 +61,6 @@ body-closed t =
     (λ c κs. c .before .before .before .before .pre .1 .0 .at)  -- spec-bounds-requires
     (λ c κs. search needs)  -- kinds-of-requires
     (λ c κs. (c .before .spec-bounds .ensures .region, c .before .before .before .before .before .before .pre .1 .1 .0))  -- survey-after-requires
-    (λ c. search needs)  -- cast-t21
     (λ c κs. search needs)  -- stop-at-requires
     (returns t)  -- returns
     (λ c κs. search needs)  -- next-run-requires

@@ -17,7 +17,7 @@ returns t c = by (comp-lacks _ _ _ _ (c .before .before .before .first-of .ensur
 
 returns-2 : (t : ℕ) → lts.Need-returns-2 (comp-claims t) (comp-at t) comp.Post
 returns-2 t c =
-    let o = c .before .before .before .before in
+    let o = c .before .before .before in
     let w = o .before in
     let y = w .before in
     let e = y .before in
@@ -28,7 +28,7 @@ returns-2 t c =
     let f = n .before in
     let s = f .before .before .before .before .before in
     let d = bounded-as _ (a .first-in .ensures) (e .end-at .ensures) (b .first-of2 .ensures) (f .first-of .ensures) (y .bounds-between .ensures) in
-    by (member-reading _ _ _ (f .first-of .ensures) (n .is-nothing .ensures) (i1 .if1 .left) d ∙ comp-foreign _ _ (survey-foreign _ (w .kinds-of .ensures) (o .survey .ensures) (c .before .before .if2 .taken))) (c .stop-at2 .ensures _ _)
+    by (member-reading _ _ _ (f .first-of .ensures) (n .is-nothing .ensures) (i1 .if1 .left) d ∙ comp-foreign _ _ (survey-foreign _ (w .kinds-of .ensures) (o .survey .ensures) (c .before .if2 .taken))) (c .stop-at2 .ensures _ _)
 
 returns-3 : (t : ℕ) → lts.Need-returns-3 (comp-claims t) (comp-at t) comp.Post
 returns-3 t c =
@@ -85,7 +85,6 @@ comp-closed t =
     (bounds-asked t)  -- bounds-between-requires
     (λ c κs. search needs)  -- kinds-of-requires
     (λ c κs. c .before .bounds-between .ensures .region)  -- survey-requires
-    (λ c. search needs)  -- cast-t19
     (λ c κs. search needs)  -- stop-at-requires-2
     (returns-2 t)  -- returns-2
     (body-asked t)  -- body-requires

@@ -13,7 +13,7 @@ use Rattle.printer.proofs.printers.+arg+args+bind+binds+body+child+comp
 
 returns : (t : ℕ) → lts.Need-returns (list-claims t) (list-at t) list.Post
 returns t c =
-    let i1 = c .before .before in
+    let i1 = c .before in
     let o = i1 .before .before in
     let w = o .before in
     let d = w .before in
@@ -78,7 +78,6 @@ list-closed t =
     (λ c κs. search needs)  -- child-class-requires
     (λ c κs. search needs)  -- kinds-of-requires
     (λ c κs. c .before .before .enclosed .ensures .region)  -- survey-requires
-    (λ c. search needs)  -- cast-t20
     (λ c κs. search needs)  -- stop-at-requires
     (returns t)  -- returns
     (λ c κs. search needs)  -- is-empty-requires

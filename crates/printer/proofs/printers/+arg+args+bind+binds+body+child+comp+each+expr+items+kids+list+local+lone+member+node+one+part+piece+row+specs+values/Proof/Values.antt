@@ -18,7 +18,7 @@ abbrev μ-loop : lts.MeasureT-loop
 μ-loop records₀ texts₀ image index i z w s₀ q₀ records texts s q = z .to - s .to
 
 returns : (t : ℕ) → lts.Need-returns (values-claims t) (values-at t) values.Post Inv-loop μ-loop
-returns t c = by (values-foreign _ (survey-foreign _ (c .before .before .before .before .before .kinds-of .ensures) (c .before .before .before .before .survey .ensures) (c .before .before .if1 .taken))) (c .stop-at .ensures _ _)
+returns t c = by (values-foreign _ (survey-foreign _ (c .before .before .before .before .kinds-of .ensures) (c .before .before .before .survey .ensures) (c .before .if1 .taken))) (c .stop-at .ensures _ _)
 
 returns-2 : (t : ℕ) → lts.Need-returns-2 (values-claims t) (values-at t) values.Post Inv-loop μ-loop
 returns-2 t c =
@@ -52,7 +52,6 @@ values-closed t =
     μ-loop
     (λ c κs. search needs)  -- kinds-of-requires
     (λ c κs. search needs)  -- survey-requires
-    (λ c. search needs)  -- cast-t14
     (λ c κs. search needs)  -- stop-at-requires
     (returns t)  -- returns
     (λ c κs. search needs)  -- gap-requires

@@ -1,0 +1,10 @@
+// The numbers of line marks, runs and elements, each of a type of its own, so that none is taken for another.
+
+// The number of a line mark: run k has the marks 2k and 2k + 1.
+pub struct Mark(pub u64);
+
+// The number of a run.
+pub struct Run(pub u32);
+
+// The number of an element of the tree.
+pub struct Element(pub u32);
