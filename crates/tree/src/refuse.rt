@@ -89,13 +89,13 @@ fn misplaced_at(image: &[u8], before: u32, i: u32) -> bool
     ensures { λ r. ⌜ r ≡ misplaced (elementIn (now (image .entry)) before) (elementIn (now (image .entry)) i) ⌝ }
 {
     let e = read::element_of(image, i);
-    let parent = read::element_of(image, before);
+    let prior = read::element_of(image, before);
     let level = e.level as u32;
-    let above = parent.level as u32;
+    let above = prior.level as u32;
     (e.kind == SOURCE_FILE)
         | ((level == 0)
             | ((MAX_LEVEL < level)
-                | ((above + 1 < level) | ((FIRST_TOKEN <= parent.kind) & (above < level)))))
+                | ((above + 1 < level) | ((FIRST_TOKEN <= prior.kind) & (above < level)))))
 }
 
 // The first element is not a SourceFile at level 0.
