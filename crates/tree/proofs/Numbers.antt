@@ -7,11 +7,11 @@ use lib.ListN.{drop}
 use Rattle.tree.specs.Tree.{le16, le32}
 use Rattle.tree.specs.Image.{headerAt, kindIn, levelIn, sizeIn, le16-drop, le32-drop, level-in, size-in}
 
-pub short-as : (s : List ℕ) (at : ℕ) {t : List ℕ} {n : ℕ} → t ≡ drop at s → n ≡ le16 t 0 → n ≡ le16 s at
-short-as s at p q = rw (q, p, le16-drop at s 0, add-zero at)
-
-pub number-as : (s : List ℕ) (at : ℕ) {t : List ℕ} {n : ℕ} → t ≡ drop at s → n ≡ le32 t 0 → n ≡ le32 s at
-number-as s at p q = rw (q, p, le32-drop at s 0, add-zero at)
+-- a number of any width: f reads it, and in what stands from a place on reads what stands there
+pub number-as :
+    (f : List ℕ → ℕ → ℕ) → ((n : ℕ) (s : List ℕ) (i : ℕ) → f (drop n s) i ≡ f s (n + i))
+    → (s : List ℕ) (at : ℕ) {t : List ℕ} {n : ℕ} → t ≡ drop at s → n ≡ f t 0 → n ≡ f s at
+number-as f d s at p q = rw (q, p, d at s 0, add-zero at)
 
 pub header-as : (s : List ℕ) (at : ℕ) {t : List ℕ} {k l z : ℕ} → t ≡ drop at s → k ≡ le16 t 0 → l ≡ le16 t 2 → z ≡ le32 t 4 → record { kind = k; level = l; size = z } ≡ headerAt s at
 unfolding headerAt

@@ -1,4 +1,4 @@
-// The tests 1 to 9. Of those that look at one element at a time, `first_where` walks the elements for one of them.
+// The tests 1 to 9. `first_where` walks the elements for those that look at one element at a time.
 use super::Found;
 use super::read;
 use super::read::COUNT;

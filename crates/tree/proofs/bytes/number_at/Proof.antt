@@ -1,4 +1,6 @@
 use borrow.Author.Needs.{needs}
+use Rattle.tree.specs.Tree.{le32}
+use Rattle.tree.specs.Image.{le32-drop}
 use Rattle.tree.proofs.Numbers.{number-as}
 use Rattle.tree.proofs.bytes.number_at.Statement.{statement}
 use Rattle.tree.proofs.bytes.number_at.Tie as tie
@@ -9,5 +11,5 @@ number-at-spec =
     (tie.spec
     (λ c κs. search needs)  -- behind-requires
     (λ c κs. search needs)  -- u32-at-requires
-    (λ c. number-as _ _ (c .before .behind .ensures) (c .u32-at .ensures))  -- returns
+    (λ c. number-as le32 le32-drop _ _ (c .before .behind .ensures) (c .u32-at .ensures))  -- returns
     )

@@ -1,5 +1,7 @@
 use borrow.Author.Needs.{needs}
-use Rattle.tree.proofs.Numbers.{short-as}
+use Rattle.tree.specs.Tree.{le16}
+use Rattle.tree.specs.Image.{le16-drop}
+use Rattle.tree.proofs.Numbers.{number-as}
 use Rattle.tree.proofs.bytes.short_at.Statement.{statement}
 use Rattle.tree.proofs.bytes.short_at.Tie as tie
 
@@ -9,5 +11,5 @@ short-at-spec =
     (tie.spec
     (λ c κs. search needs)  -- behind-requires
     (λ c κs. search needs)  -- u16-at-requires
-    (λ c. short-as _ _ (c .before .behind .ensures) (c .u16-at .ensures))  -- returns
+    (λ c. number-as le16 le16-drop _ _ (c .before .behind .ensures) (c .u16-at .ensures))  -- returns
     )
