@@ -12,7 +12,7 @@ use tree::class::Kinds;
 use tree::class::is;
 use tree::class::kinds_of;
 ghost use mathlib.Core.List.{[], _∷_};
-ghost use Rattle.items.specs.Machine.{held, Prints};
+ghost use Rattle.items.specs.Machine.{held, Prints, PrintsIn};
 ghost use Rattle.comments.specs.Place.{place};
 ghost use Rattle.tree.specs.Class.{allOf};
 ghost use Rattle.tree.specs.Index.{partAt, partsFrom, Region};
@@ -31,7 +31,7 @@ fn print_one(
     loc: CommentLocation,
     p: Printed,
 ) -> Printed
-    ensures { λ r. ⌜ Prints (comments (allOf w (partAt (now (index .entry)) (now (text .entry)) j ∷ [])) (place loc)) (held (now (records .entry)) (now (texts .entry)) p) (held (now (records .exit)) (now (texts .exit)) r) ⌝ }
+    ensures { λ r. ⌜ PrintsIn records texts p r (comments (allOf w (partAt (now (index .entry)) (now (text .entry)) j ∷ [])) (place loc)) ⌝ }
 {
     let k = kind_at(index, j);
     if is(w, k) {
@@ -54,7 +54,7 @@ fn print_all(
     p: Printed,
 ) -> Printed
     requires { ⌜ Region (now index) (now text) a b ⌝ }
-    ensures { λ r. ⌜ Prints (comments (allOf w (partsFrom (now (index .entry)) (now (text .entry)) a b)) (place loc)) (held (now (records .entry)) (now (texts .entry)) p) (held (now (records .exit)) (now (texts .exit)) r) ⌝ }
+    ensures { λ r. ⌜ PrintsIn records texts p r (comments (allOf w (partsFrom (now (index .entry)) (now (text .entry)) a b)) (place loc)) ⌝ }
 {
     let mut q = p;
     let mut j = a;
@@ -76,7 +76,7 @@ pub fn print_inline(
     p: Printed,
 ) -> Printed
     requires { ⌜ Lies (now index) (now text) s ⌝ }
-    ensures { λ r. ⌜ Prints (comments (gapAt (now (index .entry)) (now (text .entry)) s .inline) (place loc)) (held (now (records .entry)) (now (texts .entry)) p) (held (now (records .exit)) (now (texts .exit)) r) ⌝ }
+    ensures { λ r. ⌜ PrintsIn records texts p r (comments (gapAt (now (index .entry)) (now (text .entry)) s .inline) (place loc)) ⌝ }
 {
     let w = kinds_of(Class::Trivia);
     print_all(records, texts, index, text, w, s.from, s.cut, loc, p)
@@ -93,7 +93,7 @@ pub fn print_waiting(
     p: Printed,
 ) -> Printed
     requires { ⌜ Lies (now index) (now text) s ⌝ }
-    ensures { λ r. ⌜ Prints (comments (gapAt (now (index .entry)) (now (text .entry)) s .waiting) (place loc)) (held (now (records .entry)) (now (texts .entry)) p) (held (now (records .exit)) (now (texts .exit)) r) ⌝ }
+    ensures { λ r. ⌜ PrintsIn records texts p r (comments (gapAt (now (index .entry)) (now (text .entry)) s .waiting) (place loc)) ⌝ }
 {
     let w = kinds_of(Class::CustomError);
     let q = print_all(records, texts, index, text, w, s.from, s.cut, loc, p);
@@ -113,7 +113,7 @@ pub fn print_notes(
     p: Printed,
 ) -> Printed
     requires { ⌜ Region (now index) (now text) a b ⌝ }
-    ensures { λ r. ⌜ Prints (comments (allOf notes (partsFrom (now (index .entry)) (now (text .entry)) a b)) (place loc)) (held (now (records .entry)) (now (texts .entry)) p) (held (now (records .exit)) (now (texts .exit)) r) ⌝ }
+    ensures { λ r. ⌜ PrintsIn records texts p r (comments (allOf notes (partsFrom (now (index .entry)) (now (text .entry)) a b)) (place loc)) ⌝ }
 {
     let w = note_kinds();
     print_all(records, texts, index, text, w, a, b, loc, p)

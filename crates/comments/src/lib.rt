@@ -6,7 +6,7 @@ mod rows;
 use items::Printed;
 ghost use mathlib.Core.Path.{_≡_};
 ghost use Rattle.items.specs.Item.{says};
-ghost use Rattle.items.specs.Machine.{held, Prints};
+ghost use Rattle.items.specs.Machine.{held, Prints, PrintsIn};
 ghost use Rattle.comments.specs.Comments.{inline, comment};
 ghost use Rattle.comments.specs.Place.{place};
 
@@ -52,7 +52,7 @@ pub fn format_comment(
     loc: CommentLocation,
     p: Printed,
 ) -> Printed
-    ensures { λ r. ⌜ Prints (says (comment kind (now (s .entry)) (place loc))) (held (now (records .entry)) (now (texts .entry)) p) (held (now (records .exit)) (now (texts .exit)) r) ⌝ }
+    ensures { λ r. ⌜ PrintsIn records texts p r (says (comment kind (now (s .entry)) (place loc))) ⌝ }
 {
     match kind {
         WHITESPACE => p,

@@ -32,9 +32,10 @@ use Rattle.formatter.specs.declared.refusal.Refusal as code-refusal
 use Rattle.formatter.specs.declared.refusal.Numbered.{Numbered}
 use Rattle.formatter.specs.declared.Answer.the-variants.{Refused, Printed}
 use Rattle.formatter.specs.Told.{numberOf, elementOf, told}
-use Rattle.formatter.specs.Fitted.{items-fit}
+use Rattle.formatter.proofs.Fitted.{items-fit}
 use Rattle.formatter.specs.Answer.{Verdict, turnedAway, printed, fromPrinting, fromTests, verdict, withRoom, withListing, ruling, Answer, refused, done, answerOf, answer, bufferOf, recordsAfter, textsAfter, listingAfter}
-use Rattle.formatter.specs.Answered.{Answered, passed, answered}
+use Rattle.formatter.specs.Answered.{Answered}
+use Rattle.formatter.proofs.Answering.{passed, answered}
 use Rattle.formatter.specs.Calls.{Judged, tally, roomFor}
 
 -- ---- refusals in numbers

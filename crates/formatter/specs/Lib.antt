@@ -1,14 +1,6 @@
 -- What the call from a tree image to print items promises: the plain printing, bodies put back, bounds, the answer and the lent buffers.
 pub mod PutBack
 pub mod Plain
-pub mod Numbers
-pub mod Agree
-pub mod Tests
-pub mod Weights
-pub mod Columns
-pub mod Bound
-pub mod Counted
-pub mod Fitted
 pub mod Answer
 pub mod Told
 pub mod Answered

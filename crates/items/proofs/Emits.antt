@@ -136,17 +136,7 @@ pub again-textless : (n : ℕ) → Textless (entryOf 0 (again n)) (again n)
 again-textless n = record { entry = λ at. refl; bytes = refl; runs = refl }
 
 pub signal-textless : (s : Signal) → Textless (plainEntry (recordOf 0 (signalItem s) .kind) 0 0) (signalItem s)
-signal-textless NewLine = record { entry = λ at. refl; bytes = refl; runs = refl }
-signal-textless SpaceOrNewLine = record { entry = λ at. refl; bytes = refl; runs = refl }
-signal-textless Tab = record { entry = λ at. refl; bytes = refl; runs = refl }
-signal-textless StartIndent = record { entry = λ at. refl; bytes = refl; runs = refl }
-signal-textless FinishIndent = record { entry = λ at. refl; bytes = refl; runs = refl }
-signal-textless StartGroup = record { entry = λ at. refl; bytes = refl; runs = refl }
-signal-textless FinishGroup = record { entry = λ at. refl; bytes = refl; runs = refl }
-signal-textless StartBlock = record { entry = λ at. refl; bytes = refl; runs = refl }
-signal-textless FinishBlock = record { entry = λ at. refl; bytes = refl; runs = refl }
-signal-textless Else = record { entry = λ at. refl; bytes = refl; runs = refl }
-signal-textless EndIf = record { entry = λ at. refl; bytes = refl; runs = refl }
+signal-textless s = record { entry = λ at. refl; bytes = refl; runs = refl }
 
 pub condition-textless : (t : Condition) → Textless (entryOf 0 (ifTest (conditionTest t))) (ifTest (conditionTest t))
 condition-textless Always = record { entry = λ at. refl; bytes = refl; runs = refl }

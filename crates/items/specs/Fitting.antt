@@ -13,7 +13,7 @@ use borrow.Author.Tests.{lt-ltb}
 use Rattle.text.specs.Basic.{sum, all, All, ∅, _▹_}
 use Rattle.items.specs.declared.Printed.{Printed}
 use Rattle.items.specs.declared.Printed.the-variants.{Done}
-use Rattle.items.specs.Item.{always, lines, Item, text, newline, spaceOrNewline, tab, indent, outdent, mark, group, groupEnd, block, blockEnd, runEnd, again, ifTest, elseItem, endIf, Out, stop, ok, Print, itemsOf}
+use Rattle.items.specs.Item.{always, lines, Item, signal, text, newline, spaceOrNewline, tab, indent, outdent, mark, group, groupEnd, block, blockEnd, runEnd, again, ifTest, elseItem, endIf, Out, stop, ok, Print, itemsOf}
 use Rattle.items.specs.Item.{run as opening}
 use Rattle.items.specs.Role.{role, isRun, isMark, runsOf, marksOf}
 use Rattle.items.specs.Lines.{recordLine, recordLines}
@@ -111,23 +111,13 @@ fit-true (_▹_ {x = n} h p) = rw (lt-ltb n (2 ^ 32) h, fit-true p)
 -- the operands fit at any offset that fits
 short-at : (at : ℕ) (x : Item) → at < 2 ^ 32 → Short x → (recordOf at x .first < 2 ^ 32) × (recordOf at x .second < 2 ^ 32)
 short-at at (text s) h k = (h, k .1)
-short-at at newline h k = k
-short-at at spaceOrNewline h k = k
-short-at at tab h k = k
-short-at at indent h k = k
-short-at at outdent h k = k
+short-at at (signal s) h k = k
 short-at at (mark n) h k = k
-short-at at group h k = k
-short-at at groupEnd h k = k
-short-at at block h k = k
-short-at at blockEnd h k = k
 short-at at (opening n) h k = k
 short-at at (runEnd n) h k = k
 short-at at (again n) h k = k
 short-at at (ifTest always) h k = k
 short-at at (ifTest (lines n)) h k = k
-short-at at elseItem h k = k
-short-at at endIf h k = k
 
 all-fit :
     (xs : List Item) (c : Counts) → All Short xs → c .records + length xs < 2 ^ 32 → c .texts + length (bytes xs) < 2 ^ 32

@@ -4,6 +4,8 @@ use mathlib.Core.List.{List, [], _∷_, _++_}
 use Prim.Native.Nat.{ℕ, suc}
 use Prim.Native.String.{String}
 use Rattle.text.specs.Basic.{ascii}
+use Rattle.items.specs.declared.Signal.{Signal}
+use Rattle.items.specs.declared.Signal.the-variants.{NewLine, SpaceOrNewLine, Tab, StartIndent, FinishIndent, StartGroup, FinishGroup, StartBlock, FinishBlock, Else, EndIf}
 
 -- What a condition tests: '0 always; or 1 and a start mark s: lines of marks s and s+1 differ'.
 pub data Test : Type 0 where
@@ -13,12 +15,44 @@ pub data Test : Type 0 where
 -- 'Records': the seventeen kinds in order, a text by its bytes.
 pub data Item : Type 0 where
   text : List ℕ → Item
-  newline spaceOrNewline tab indent outdent : Item
+  signal : Signal → Item
   mark : ℕ → Item
-  group groupEnd block blockEnd : Item
   run runEnd again : ℕ → Item
   ifTest : Test → Item
-  elseItem endIf : Item
+
+-- the items without operands by their names
+abbrev pub newline : Item
+newline = signal NewLine
+
+abbrev pub spaceOrNewline : Item
+spaceOrNewline = signal SpaceOrNewLine
+
+abbrev pub tab : Item
+tab = signal Tab
+
+abbrev pub indent : Item
+indent = signal StartIndent
+
+abbrev pub outdent : Item
+outdent = signal FinishIndent
+
+abbrev pub group : Item
+group = signal StartGroup
+
+abbrev pub groupEnd : Item
+groupEnd = signal FinishGroup
+
+abbrev pub block : Item
+block = signal StartBlock
+
+abbrev pub blockEnd : Item
+blockEnd = signal FinishBlock
+
+abbrev pub elseItem : Item
+elseItem = signal Else
+
+abbrev pub endIf : Item
+endIf = signal EndIf
 
 -- What a printing gives: the items until it stops and the element at which the Rust stops, or all items and the next list's number.
 pub data Out : Type 0 where

@@ -10,11 +10,13 @@ use borrow.Author.Tests.{leb-true, leb-false, eq-eqb, ne-eqb}
 use Rattle.text.specs.Basic.{ascii, and-true, All, ∅, _▹_}
 use Rattle.text.proofs.Table.{tabled-at}
 use Rattle.text.proofs.Below.{below}
-use Rattle.items.specs.Item.{always, lines, Item, text, newline, spaceOrNewline, tab, indent, outdent, mark, group, groupEnd, block, blockEnd, run, runEnd, again, ifTest, elseItem, endIf}
-use Rattle.items.specs.Lines.{decimal, field, described, recordLine, recordLines}
+use Rattle.items.specs.declared.Signal.{Signal}
+use Rattle.items.specs.declared.Signal.the-variants.{NewLine, SpaceOrNewLine, Tab, StartIndent, FinishIndent, StartGroup, FinishGroup, StartBlock, FinishBlock, Else, EndIf}
+use Rattle.items.specs.Item.{always, lines, Item, signal, text, newline, spaceOrNewline, tab, indent, outdent, mark, group, groupEnd, block, blockEnd, run, runEnd, again, ifTest, elseItem, endIf}
+use Rattle.items.specs.Lines.{signalName, decimal, field, described, recordLine, recordLines}
 use Rattle.items.specs.Decimals.{decimal-short}
 use Rattle.items.specs.Names.{names, nameAt, joined, startOf, numbered, describedLength, lineLength}
-use Rattle.items.specs.Records.{recordOf, bytesOf, bytes}
+use Rattle.items.specs.Records.{signalKind, recordOf, bytesOf, bytes}
 use Rattle.items.specs.Fitting.{Short}
 
 -- ---- names, each rule by one computed test over the whole table
@@ -94,26 +96,43 @@ module _ (k a b : ℕ) where
 
 -- ---- lines by items
 
+signal-length : (s : Signal) → describedLength (signalKind s) 0 0 ≡ length (ascii (signalName s))
+unfolding describedLength names nameAt
+signal-length NewLine = refl
+signal-length SpaceOrNewLine = refl
+signal-length Tab = refl
+signal-length StartIndent = refl
+signal-length FinishIndent = refl
+signal-length StartGroup = refl
+signal-length FinishGroup = refl
+signal-length StartBlock = refl
+signal-length FinishBlock = refl
+signal-length Else = refl
+signal-length EndIf = refl
+
+signal-short : (s : Signal) → length (ascii (signalName s)) ≤ 32 + 0
+signal-short NewLine = omega arith
+signal-short SpaceOrNewLine = omega arith
+signal-short Tab = omega arith
+signal-short StartIndent = omega arith
+signal-short FinishIndent = omega arith
+signal-short StartGroup = omega arith
+signal-short FinishGroup = omega arith
+signal-short StartBlock = omega arith
+signal-short FinishBlock = omega arith
+signal-short Else = omega arith
+signal-short EndIf = omega arith
+
 described-length : (at : ℕ) (x : Item) → let r = recordOf at x in describedLength (r .kind) (r .first) (r .second) ≡ length (described x)
 unfolding describedLength described names nameAt
 described-length at (text s) = rw (length-append (field "text" (length s)) (32 ∷ s)) (omega arith)
-described-length at newline = refl
-described-length at spaceOrNewline = refl
-described-length at tab = refl
-described-length at indent = refl
-described-length at outdent = refl
+described-length at (signal s) = signal-length s
 described-length at (mark n) = refl
-described-length at group = refl
-described-length at groupEnd = refl
-described-length at block = refl
-described-length at blockEnd = refl
 described-length at (run n) = refl
 described-length at (runEnd n) = refl
 described-length at (again n) = refl
 described-length at (ifTest always) = refl
 described-length at (ifTest (lines n)) = refl
-described-length at elseItem = refl
-described-length at endIf = refl
 
 pub line-length : (n at : ℕ) (x : Item) → let r = recordOf at x in lineLength n (r .kind) (r .first) (r .second) ≡ length (recordLine n x)
 line-length n at x = omega (arith, described-length at x, length-append (decimal n) (32 ∷ (described x ++ (10 ∷ []))), length-append (described x) (10 ∷ []))
@@ -121,23 +140,13 @@ line-length n at x = omega (arith, described-length at x, length-append (decimal
 described-short : (x : Item) → Short x → length (described x) ≤ 32 + length (bytesOf x)
 unfolding described
 described-short (text s) h = omega (arith, decimal-short (length s) (h .1), length-append (field "text" (length s)) (32 ∷ s))
-described-short newline h = omega arith
-described-short spaceOrNewline h = omega arith
-described-short tab h = omega arith
-described-short indent h = omega arith
-described-short outdent h = omega arith
+described-short (signal s) h = signal-short s
 described-short (mark n) h = omega (arith, decimal-short n (h .0))
-described-short group h = omega arith
-described-short groupEnd h = omega arith
-described-short block h = omega arith
-described-short blockEnd h = omega arith
 described-short (run n) h = omega (arith, decimal-short n (h .0))
 described-short (runEnd n) h = omega (arith, decimal-short n (h .0))
 described-short (again n) h = omega (arith, decimal-short n (h .0))
 described-short (ifTest always) h = omega arith
 described-short (ifTest (lines n)) h = omega (arith, decimal-short n (h .1))
-described-short elseItem h = omega arith
-described-short endIf h = omega arith
 
 -- the lines of items take at most 64 bytes each besides their texts
 pub lines-short : (n : ℕ) {xs : List Item} → All Short xs → n + length xs ≤ 2 ^ 32 → length (recordLines n xs) ≤ 64 * length xs + length (bytes xs)

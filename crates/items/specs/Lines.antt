@@ -6,7 +6,9 @@ use Prim.Native.String.{String}
 use lib.Dec.{ltb}
 use lib.ListN.{length}
 use Rattle.text.specs.Basic.{ascii}
-use Rattle.items.specs.Item.{always, lines, Item, text, newline, spaceOrNewline, tab, indent, outdent, mark, group, groupEnd, block, blockEnd, run, runEnd, again, ifTest, elseItem, endIf}
+use Rattle.items.specs.declared.Signal.{Signal}
+use Rattle.items.specs.declared.Signal.the-variants.{NewLine, SpaceOrNewLine, Tab, StartIndent, FinishIndent, StartGroup, FinishGroup, StartBlock, FinishBlock, Else, EndIf}
+use Rattle.items.specs.Item.{always, lines, Item, signal, text, newline, spaceOrNewline, tab, indent, outdent, mark, group, groupEnd, block, blockEnd, run, runEnd, again, ifTest, elseItem, endIf}
 
 -- the decimal digits of n, where it has at most d + 1 of them
 unfoldable pub digits : ℕ → ℕ → List ℕ
@@ -21,26 +23,30 @@ decimal n = digits n n
 abbrev pub field : String → ℕ → List ℕ
 field s n = ascii s ++ (32 ∷ decimal n)
 
+-- the name of an item without operands
+abbrev pub signalName : Signal → String
+signalName NewLine = "newline"
+signalName SpaceOrNewLine = "space-or-newline"
+signalName Tab = "tab"
+signalName StartIndent = "indent"
+signalName FinishIndent = "outdent"
+signalName StartGroup = "group"
+signalName FinishGroup = "group-end"
+signalName StartBlock = "block"
+signalName FinishBlock = "block-end"
+signalName Else = "else"
+signalName EndIf = "end-if"
+
 -- 'the kind's name as above, its operands (for text, the length and the text as stored; for if, `always` or `lines` and the mark)'
 unfoldable pub described : Item → List ℕ
 described (text s) = field "text" (length s) ++ (32 ∷ s)
-described newline = ascii "newline"
-described spaceOrNewline = ascii "space-or-newline"
-described tab = ascii "tab"
-described indent = ascii "indent"
-described outdent = ascii "outdent"
+described (signal s) = ascii (signalName s)
 described (mark n) = field "mark" n
-described group = ascii "group"
-described groupEnd = ascii "group-end"
-described block = ascii "block"
-described blockEnd = ascii "block-end"
 described (run n) = field "run" n
 described (runEnd n) = field "run-end" n
 described (again n) = field "again" n
 described (ifTest always) = ascii "if always"
 described (ifTest (lines n)) = field "if lines" n
-described elseItem = ascii "else"
-described endIf = ascii "end-if"
 
 -- 'one line for each record: its number, the kind's name as above, its operands'
 abbrev pub recordLine : ℕ → Item → List ℕ

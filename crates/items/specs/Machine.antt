@@ -4,6 +4,8 @@ use mathlib.Core.Bool.{Bool, cond}
 use mathlib.Core.Option.{Option, none, some}
 use mathlib.Core.List.{List, [], _∷_}
 use Prim.Native.Nat.{ℕ, _+_, _*_, _^_}
+use denote.Ref.{RefT}
+use denote.Triple.Both.{Both}
 use lib.Dec.{ltb}
 use lib.ListN.{length}
 use lib.Seq.{sets}
@@ -127,6 +129,14 @@ pub record Prints (q : Print) (o a : Held) : Type 0 where
   pub ran : outcome a ≡ run q (outcome o)
   pub sameRecords : length (a .records) ≡ length (o .records)
   pub sameTexts : length (a .texts) ≡ length (o .texts)
+
+-- a slice lent to a call, at its entry and at its exit
+abbrev pub Lent : Type 0
+Lent = Both (RefT (List ℕ)) (RefT (List ℕ))
+
+-- the contract of a printer that is lent the records and the texts, is handed p and answers r
+abbrev pub PrintsIn : Lent → Lent → Printed → Printed → Print → Type 0
+PrintsIn records texts p r q = Prints q (held (records .entry .now) (texts .entry .now) p) (held (records .exit .now) (texts .exit .now) r)
 
 -- the number that the next list gets, 0 where printing does not go on
 unfoldable pub nextRun : Printed → ℕ

@@ -10,7 +10,9 @@ use lib.ListN.{length, drop, take, length-append}
 use lib.Seq.{drop-append-seam, take-append-seam}
 use borrow.Author.Tests.{le-leb}
 use Rattle.items.specs.declared.Count.{Count}
-use Rattle.items.specs.Item.{always, lines, Item, text, newline, spaceOrNewline, tab, indent, outdent, mark, group, groupEnd, block, blockEnd, run, runEnd, again, ifTest, elseItem, endIf}
+use Rattle.items.specs.Item.{always, lines, Item, signal, text, newline, spaceOrNewline, tab, indent, outdent, mark, group, groupEnd, block, blockEnd, run, runEnd, again, ifTest, elseItem, endIf}
+use Rattle.items.specs.declared.Signal.{Signal}
+use Rattle.items.specs.declared.Signal.the-variants.{NewLine, SpaceOrNewLine, Tab, StartIndent, FinishIndent, StartGroup, FinishGroup, StartBlock, FinishBlock, Else, EndIf}
 use Rattle.items.specs.Role.{runsOf, marksOf}
 use Rattle.items.specs.Lines.{recordLines}
 
@@ -24,46 +26,40 @@ pub record Record : Type 0 where
 abbrev pub three : ℕ → ℕ → ℕ → Record
 three k a b = record { kind = k; first = a; second = b }
 
+-- the kind of an item without operands
+abbrev pub signalKind : Signal → ℕ
+signalKind NewLine = 2
+signalKind SpaceOrNewLine = 3
+signalKind Tab = 4
+signalKind StartIndent = 5
+signalKind FinishIndent = 6
+signalKind StartGroup = 8
+signalKind FinishGroup = 9
+signalKind StartBlock = 10
+signalKind FinishBlock = 11
+signalKind Else = 16
+signalKind EndIf = 17
+
 -- an item's record, where its text would stand at this offset: '0 where unused'
 abbrev pub recordOf : ℕ → Item → Record
 recordOf at (text s) = three 1 at (length s)
-recordOf at newline = three 2 0 0
-recordOf at spaceOrNewline = three 3 0 0
-recordOf at tab = three 4 0 0
-recordOf at indent = three 5 0 0
-recordOf at outdent = three 6 0 0
+recordOf at (signal s) = three (signalKind s) 0 0
 recordOf at (mark n) = three 7 n 0
-recordOf at group = three 8 0 0
-recordOf at groupEnd = three 9 0 0
-recordOf at block = three 10 0 0
-recordOf at blockEnd = three 11 0 0
 recordOf at (run n) = three 12 n 0
 recordOf at (runEnd n) = three 13 n 0
 recordOf at (again n) = three 14 n 0
 recordOf at (ifTest always) = three 15 0 0
 recordOf at (ifTest (lines n)) = three 15 1 n
-recordOf at elseItem = three 16 0 0
-recordOf at endIf = three 17 0 0
 
 -- an item's text
 abbrev pub bytesOf : Item → List ℕ
 bytesOf (text s) = s
-bytesOf newline = []
-bytesOf spaceOrNewline = []
-bytesOf tab = []
-bytesOf indent = []
-bytesOf outdent = []
+bytesOf (signal s) = []
 bytesOf (mark n) = []
-bytesOf group = []
-bytesOf groupEnd = []
-bytesOf block = []
-bytesOf blockEnd = []
 bytesOf (run n) = []
 bytesOf (runEnd n) = []
 bytesOf (again n) = []
 bytesOf (ifTest t) = []
-bytesOf elseItem = []
-bytesOf endIf = []
 
 -- the words of the record buffer, from this text offset on
 unfoldable pub words : ℕ → List Item → List ℕ
@@ -147,27 +143,31 @@ stored-is : (p s r : List ℕ) → stored (p ++ (s ++ r)) (length p) (length s) 
 stored-is p s r =
     rw (le-leb (length p + length s) (length (p ++ (s ++ r))) (rw (length-append p (s ++ r), length-append s r) (omega arith)), drop-append-seam, take-append-seam) refl
 
+signal-is : (ts : List ℕ) (s : Signal) → itemOf ts (signalKind s) 0 0 ≡ some (signal s)
+unfolding itemOf
+signal-is ts NewLine = refl
+signal-is ts SpaceOrNewLine = refl
+signal-is ts Tab = refl
+signal-is ts StartIndent = refl
+signal-is ts FinishIndent = refl
+signal-is ts StartGroup = refl
+signal-is ts FinishGroup = refl
+signal-is ts StartBlock = refl
+signal-is ts FinishBlock = refl
+signal-is ts Else = refl
+signal-is ts EndIf = refl
+
 -- a record gives its item back
 record-is : (p r : List ℕ) (x : Item) → let w = recordOf (length p) x in itemOf (p ++ (bytesOf x ++ r)) (w .kind) (w .first) (w .second) ≡ some x
 unfolding itemOf
 record-is p r (text s) = stored-is p s r
-record-is p r newline = refl
-record-is p r spaceOrNewline = refl
-record-is p r tab = refl
-record-is p r indent = refl
-record-is p r outdent = refl
+record-is p r (signal s) = signal-is (p ++ ([] ++ r)) s
 record-is p r (mark m) = refl
-record-is p r group = refl
-record-is p r groupEnd = refl
-record-is p r block = refl
-record-is p r blockEnd = refl
 record-is p r (run m) = refl
 record-is p r (runEnd m) = refl
 record-is p r (again m) = refl
 record-is p r (ifTest always) = refl
 record-is p r (ifTest (lines m)) = refl
-record-is p r elseItem = refl
-record-is p r endIf = refl
 
 decoded-from : (p : List ℕ) (xs : List Item) (ws ts : List ℕ) → decoded (words (length p) xs ++ ws) (p ++ (bytes xs ++ ts)) (length xs) ≡ some xs
 unfolding words bytes decoded

@@ -2,7 +2,7 @@
 use mathlib.Core.List.{List}
 use Prim.Native.Nat.{ℕ}
 use Rattle.text.specs.Basic.{sum}
-use Rattle.items.specs.Item.{Item, text, newline, spaceOrNewline, tab, indent, outdent, mark, group, groupEnd, block, blockEnd, run, runEnd, again, ifTest, elseItem, endIf}
+use Rattle.items.specs.Item.{Item, signal, text, newline, spaceOrNewline, tab, indent, outdent, mark, group, groupEnd, block, blockEnd, run, runEnd, again, ifTest, elseItem, endIf}
 
 -- What an item means for putting back and for the counts.
 pub data Role : Type 0 where
@@ -12,22 +12,12 @@ pub data Role : Type 0 where
 -- what an item means
 abbrev pub role : Item → Role
 role (text s) = stays
-role newline = stays
-role spaceOrNewline = stays
-role tab = stays
-role indent = stays
-role outdent = stays
+role (signal s) = stays
 role (mark n) = marks
-role group = stays
-role groupEnd = stays
-role block = stays
-role blockEnd = stays
 role (run k) = opens k
 role (runEnd k) = closes k
 role (again k) = repeats k
 role (ifTest t) = stays
-role elseItem = stays
-role endIf = stays
 
 -- 1 for a run
 abbrev pub isRun : Role → ℕ

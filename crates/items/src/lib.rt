@@ -11,7 +11,7 @@ ghost use lib.ListN.{set};
 ghost use Rattle.items.specs.Item.{say, openRun, stopped, text, mark, runEnd, again, ifTest};
 ghost use Rattle.items.specs.Signal.{signalItem, conditionTest};
 ghost use Rattle.items.specs.Records.{recordOf};
-ghost use Rattle.items.specs.Machine.{held, Prints, store, storeRecord, nextRun, noCounts};
+ghost use Rattle.items.specs.Machine.{held, Prints, PrintsIn, store, storeRecord, nextRun, noCounts};
 ghost use Rattle.items.specs.Entry.{Emitted, InRange, entryOf, grownWith, plainEntry, roomFor, storeEntry};
 ghost use Rattle.items.specs.declared.Printed.the-variants.{Done};
 
@@ -271,7 +271,7 @@ pub fn next_run(p: Printed) -> Run
 
 // Prints a text, also one of no bytes.
 pub fn print_text(records: &mut [u32], texts: &mut [u8], s: &[u8], p: Printed) -> Printed
-    ensures { λ r. ⌜ Prints (say (text (now (s .entry)))) (held (now (records .entry)) (now (texts .entry)) p) (held (now (records .exit)) (now (texts .exit)) r) ⌝ }
+    ensures { λ r. ⌜ PrintsIn records texts p r (say (text (now (s .entry)))) ⌝ }
 {
     let Printed::Done(c) = p else {
         return p;
@@ -310,14 +310,14 @@ fn signal_kind(s: Signal) -> u32
 
 // Prints an item without operands.
 pub fn print_signal(records: &mut [u32], texts: &mut [u8], s: Signal, p: Printed) -> Printed
-    ensures { λ r. ⌜ Prints (say (signalItem s)) (held (now (records .entry)) (now (texts .entry)) p) (held (now (records .exit)) (now (texts .exit)) r) ⌝ }
+    ensures { λ r. ⌜ PrintsIn records texts p r (say (signalItem s)) ⌝ }
 {
     emit(records, plain(signal_kind(s), 0, 0), p)
 }
 
 // Prints a line mark.
 pub fn print_mark(records: &mut [u32], texts: &mut [u8], m: Mark, p: Printed) -> Printed
-    ensures { λ r. ⌜ Prints (say (mark (m .0))) (held (now (records .entry)) (now (texts .entry)) p) (held (now (records .exit)) (now (texts .exit)) r) ⌝ }
+    ensures { λ r. ⌜ PrintsIn records texts p r (say (mark (m .0))) ⌝ }
 {
     let e = Entry {
         kind: MARK,
@@ -332,7 +332,7 @@ pub fn print_mark(records: &mut [u32], texts: &mut [u8], m: Mark, p: Printed) ->
 
 // Begins the run of the next list.
 pub fn open_run(records: &mut [u32], texts: &mut [u8], p: Printed) -> Printed
-    ensures { λ r. ⌜ Prints openRun (held (now (records .entry)) (now (texts .entry)) p) (held (now (records .exit)) (now (texts .exit)) r) ⌝ }
+    ensures { λ r. ⌜ PrintsIn records texts p r openRun ⌝ }
 {
     let k = next_run(p);
     let e = Entry {
@@ -348,14 +348,14 @@ pub fn open_run(records: &mut [u32], texts: &mut [u8], p: Printed) -> Printed
 
 // Ends a run.
 pub fn end_run(records: &mut [u32], texts: &mut [u8], k: Run, p: Printed) -> Printed
-    ensures { λ r. ⌜ Prints (say (runEnd (k .0))) (held (now (records .entry)) (now (texts .entry)) p) (held (now (records .exit)) (now (texts .exit)) r) ⌝ }
+    ensures { λ r. ⌜ PrintsIn records texts p r (say (runEnd (k .0))) ⌝ }
 {
     emit(records, plain(RUN_END, k.0 as u64, 0), p)
 }
 
 // Prints what a run holds once more.
 pub fn print_again(records: &mut [u32], texts: &mut [u8], k: Run, p: Printed) -> Printed
-    ensures { λ r. ⌜ Prints (say (again (k .0))) (held (now (records .entry)) (now (texts .entry)) p) (held (now (records .exit)) (now (texts .exit)) r) ⌝ }
+    ensures { λ r. ⌜ PrintsIn records texts p r (say (again (k .0))) ⌝ }
 {
     emit(records, plain(AGAIN, k.0 as u64, 0), p)
 }
@@ -372,7 +372,7 @@ fn condition_entry(t: Condition) -> Entry
 
 // Begins the first branch of a condition.
 pub fn print_if(records: &mut [u32], texts: &mut [u8], t: Condition, p: Printed) -> Printed
-    ensures { λ r. ⌜ Prints (say (ifTest (conditionTest t))) (held (now (records .entry)) (now (texts .entry)) p) (held (now (records .exit)) (now (texts .exit)) r) ⌝ }
+    ensures { λ r. ⌜ PrintsIn records texts p r (say (ifTest (conditionTest t))) ⌝ }
 {
     emit(records, condition_entry(t), p)
 }

@@ -7,6 +7,7 @@ use Prim.Native.Nat.{ℕ, _+_, _<_, _≤_}
 use native.Mathlib.Omega.{arith}
 use lib.Dec.{eqb}
 use Rattle.items.specs.Item.{Print}
+use Rattle.items.specs.Machine.{Lent}
 use Rattle.tree.specs.Tree.{Part}
 use Rattle.tree.specs.declared.class.Class.{Class}
 use Rattle.tree.specs.declared.class.Kinds.{Kinds}
@@ -64,6 +65,10 @@ within a b = record { at = a; region = b .region; reached = b .reached; inside =
 -- the reading of a class between two places
 abbrev pub readAt : List ℕ → List ℕ → Class → Bounds → Option (List Part) → Reading
 readAt index image c z trailing = pass c (z .loose) (partsFrom index image (z .from) (z .to)) (start trailing)
+
+-- the same of a lent image and its lent index
+abbrev pub readIn : Lent → Lent → Class → Bounds → Option (List Part) → Reading
+readIn image index c z trailing = readAt (index .entry .now) (image .entry .now) c z trailing
 
 -- No foreign element stands in a reading.
 pub record Whole (r : Reading) : Type 0 where

@@ -9,6 +9,7 @@ use lib.Dec.{leb, ltb}
 use lib.ListN.{drop}
 use borrow.Author.Tests.{eq-eqb, ne-eqb, eqb-true, ltb-false, not-false}
 use Rattle.items.specs.Item.{Print, text, say}
+use Rattle.items.specs.Machine.{Lent}
 use Rattle.tree.specs.Tree.{Forest, nil, Part, countN, elementsOf, forest, treeOf, texts, parts}
 use Rattle.tree.specs.Image.{kindIn, levelIn, sizeIn, textIn, elementIn, elements-cons, elements-none}
 use Rattle.tree.specs.Refusal.{nodeWithText}
@@ -40,6 +41,13 @@ printOf image i = element (under image i) (kindIn image i) i (textIn image i) (t
 -- the parts of element i over the index
 abbrev pub partsOf : List ℕ → List ℕ → ℕ → List Part
 partsOf index image i = partsFrom index image (i + 1) (endAt index i)
+
+-- the same of a lent image and its lent index, as a contract names them
+abbrev pub partsIn : Lent → Lent → ℕ → List Part
+partsIn image index i = partsOf (index .entry .now) (image .entry .now) i
+
+abbrev pub underIn : Lent → ℕ → ℕ → Print
+underIn image i = under (image .entry .now) i
 
 -- how many elements are under element i, with it: printing goes on with fewer
 unfoldable pub size : List ℕ → ℕ → ℕ

@@ -22,7 +22,7 @@ use tree::Found;
 use tree::access::end_at;
 use tree::class::Class;
 ghost use Rattle.items.specs.Item.{newline, _⨟_, say, lit};
-ghost use Rattle.items.specs.Machine.{held, Prints};
+ghost use Rattle.items.specs.Machine.{held, Prints, PrintsIn};
 ghost use Rattle.comments.specs.Comments.{aboveItem, endOfItems};
 ghost use Rattle.tree.specs.Tree.{treeOf};
 ghost use Rattle.tree.specs.Answer.{found};
@@ -46,7 +46,7 @@ pub fn print_source(
     p: Printed,
 ) -> Printed
     requires { ⌜ Indexed (now image) (now index) ⌝ }
-    ensures { λ r. ⌜ Prints (sourceFile (treeOf (now (image .entry)))) (held (now (records .entry)) (now (texts .entry)) p) (held (now (records .exit)) (now (texts .exit)) r) ⌝ }
+    ensures { λ r. ⌜ PrintsIn records texts p r (sourceFile (treeOf (now (image .entry)))) ⌝ }
 {
     let e = first_of(image, index, ROOT, Class::Expr);
     let a = first_in(image, index, ROOT);
@@ -79,7 +79,7 @@ fn print_whole(
     requires { ⌜ Has (partsOf (now index) (now image) 0) (found e) ⌝ }
     requires { ⌜ Region (now index) (now image) (before .from) (before .to) ⌝ }
     requires { ⌜ Region (now index) (now image) (after .from) (after .to) ⌝ }
-    ensures { λ r. ⌜ Prints ((comments (allOf notes (partsFrom (now (index .entry)) (now (image .entry)) (before .from) (before .to))) aboveItem) ⨟ numberOr (under (now (image .entry)) 0) (lit "/*missing Expr*/") (found e) ⨟ say newline ⨟ (comments (allOf notes (partsFrom (now (index .entry)) (now (image .entry)) (after .from) (after .to))) endOfItems)) (held (now (records .entry)) (now (texts .entry)) p) (held (now (records .exit)) (now (texts .exit)) r) ⌝ }
+    ensures { λ r. ⌜ PrintsIn records texts p r ((comments (allOf notes (partsFrom (now (index .entry)) (now (image .entry)) (before .from) (before .to))) aboveItem) ⨟ numberOr (under (now (image .entry)) 0) (lit "/*missing Expr*/") (found e) ⨟ say newline ⨟ (comments (allOf notes (partsFrom (now (index .entry)) (now (image .entry)) (after .from) (after .to))) endOfItems)) ⌝ }
 {
     let q = print_notes(
         records,

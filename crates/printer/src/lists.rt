@@ -36,11 +36,11 @@ ghost use lib.Dec.{eqb};
 ghost use Rattle.text.specs.Basic.{isNil};
 ghost use Rattle.items.specs.Item.{newline, indent, outdent, _⨟_, say, lit, when};
 ghost use Rattle.items.specs.Signal.{conditionTest};
-ghost use Rattle.items.specs.Machine.{held, Prints};
+ghost use Rattle.items.specs.Machine.{held, Prints, PrintsIn};
 ghost use Rattle.children.specs.Spans.{gapAt, Lies};
 ghost use Rattle.printer.specs.Combine.{newlineIf, onlyIf, comma, separator, ending, testOf};
 ghost use Rattle.printer.specs.Rows.{wordAt, Word};
-ghost use Rattle.printer.specs.Lists.{onLine, behindIt, above, following, endingOf, openList, endBody, repeatBody, closeBracket, closeList, closeArguments, openerOf, closerOf, childOf, emptyText, openText, closeText};
+ghost use Rattle.printer.specs.Lists.{gapIn, onLine, behindIt, above, following, endingOf, openList, endBody, repeatBody, closeBracket, closeList, closeArguments, openerOf, closerOf, childOf, emptyText, openText, closeText};
 
 // The kinds of lists: elements of an array or members of an object; arguments; members of an object comprehension, and its
 // CompSpecs; binds.
@@ -54,7 +54,7 @@ pub enum Style {
 
 // A newline, if it is asked for.
 pub fn newline_if(records: &mut [u32], texts: &mut [u8], b: bool, p: Printed) -> Printed
-    ensures { λ r. ⌜ Prints (newlineIf b) (held (now (records .entry)) (now (texts .entry)) p) (held (now (records .exit)) (now (texts .exit)) r) ⌝ }
+    ensures { λ r. ⌜ PrintsIn records texts p r (newlineIf b) ⌝ }
 {
     if b {
         return print_signal(records, texts, Signal::NewLine, p);
@@ -64,7 +64,7 @@ pub fn newline_if(records: &mut [u32], texts: &mut [u8], b: bool, p: Printed) ->
 
 // A comma, where a test holds.
 fn trailing_comma(records: &mut [u32], texts: &mut [u8], t: Condition, p: Printed) -> Printed
-    ensures { λ r. ⌜ Prints (onlyIf (conditionTest t) (lit ",")) (held (now (records .entry)) (now (texts .entry)) p) (held (now (records .exit)) (now (texts .exit)) r) ⌝ }
+    ensures { λ r. ⌜ PrintsIn records texts p r (onlyIf (conditionTest t) (lit ",")) ⌝ }
 {
     let a = print_if(records, texts, t, p);
     let b = print_word(records, texts, COMMA, a);
@@ -73,7 +73,7 @@ fn trailing_comma(records: &mut [u32], texts: &mut [u8], t: Condition, p: Printe
 
 // A newline where a test holds, else a space or newline.
 fn separator(records: &mut [u32], texts: &mut [u8], t: Condition, p: Printed) -> Printed
-    ensures { λ r. ⌜ Prints (separator (conditionTest t)) (held (now (records .entry)) (now (texts .entry)) p) (held (now (records .exit)) (now (texts .exit)) r) ⌝ }
+    ensures { λ r. ⌜ PrintsIn records texts p r (separator (conditionTest t)) ⌝ }
 {
     let a = print_if(records, texts, t, p);
     let b = print_signal(records, texts, Signal::NewLine, a);
@@ -84,7 +84,7 @@ fn separator(records: &mut [u32], texts: &mut [u8], t: Condition, p: Printed) ->
 
 // A comma where more children follow, else one where a test holds.
 fn comma(records: &mut [u32], texts: &mut [u8], more: bool, t: Condition, p: Printed) -> Printed
-    ensures { λ r. ⌜ Prints (comma more (conditionTest t)) (held (now (records .entry)) (now (texts .entry)) p) (held (now (records .exit)) (now (texts .exit)) r) ⌝ }
+    ensures { λ r. ⌜ PrintsIn records texts p r (comma more (conditionTest t)) ⌝ }
 {
     if more {
         return print_word(records, texts, COMMA, p);
@@ -101,7 +101,7 @@ fn on_line(
     more: bool,
     p: Printed,
 ) -> Printed
-    ensures { λ r. ⌜ Prints (onLine style (conditionTest t) more) (held (now (records .entry)) (now (texts .entry)) p) (held (now (records .exit)) (now (texts .exit)) r) ⌝ }
+    ensures { λ r. ⌜ PrintsIn records texts p r (onLine style (conditionTest t) more) ⌝ }
 {
     match style {
         Style::Elements => comma(records, texts, more, t, p),
@@ -120,7 +120,7 @@ fn separator_if(
     t: Condition,
     p: Printed,
 ) -> Printed
-    ensures { λ r. ⌜ Prints (when more (separator (conditionTest t))) (held (now (records .entry)) (now (texts .entry)) p) (held (now (records .exit)) (now (texts .exit)) r) ⌝ }
+    ensures { λ r. ⌜ PrintsIn records texts p r (when more (separator (conditionTest t))) ⌝ }
 {
     if more {
         return separator(records, texts, t, p);
@@ -137,7 +137,7 @@ fn behind_it(
     more: bool,
     p: Printed,
 ) -> Printed
-    ensures { λ r. ⌜ Prints (behindIt style (conditionTest t) more) (held (now (records .entry)) (now (texts .entry)) p) (held (now (records .exit)) (now (texts .exit)) r) ⌝ }
+    ensures { λ r. ⌜ PrintsIn records texts p r (behindIt style (conditionTest t) more) ⌝ }
 {
     match style {
         Style::Elements => separator(records, texts, t, p),
@@ -158,7 +158,7 @@ pub fn print_above(
     p: Printed,
 ) -> Printed
     requires { ⌜ Lies (now index) (now image) s ⌝ }
-    ensures { λ r. ⌜ Prints (above (gapAt (now (index .entry)) (now (image .entry)) s)) (held (now (records .entry)) (now (texts .entry)) p) (held (now (records .exit)) (now (texts .exit)) r) ⌝ }
+    ensures { λ r. ⌜ PrintsIn records texts p r (above (gapIn image index s)) ⌝ }
 {
     let blank = blank_line(index, image, s);
     let a = newline_if(records, texts, blank, p);
@@ -185,7 +185,7 @@ pub fn print_behind(
     p: Printed,
 ) -> Printed
     requires { ⌜ Lies (now index) (now image) g ⌝ }
-    ensures { λ r. ⌜ Prints (following (onLine style (conditionTest t)) (behindIt style (conditionTest t)) (gapAt (now (index .entry)) (now (image .entry)) g) (eqb (g .end) 0)) (held (now (records .entry)) (now (texts .entry)) p) (held (now (records .exit)) (now (texts .exit)) r) ⌝ }
+    ensures { λ r. ⌜ PrintsIn records texts p r (following (onLine style (conditionTest t)) (behindIt style (conditionTest t)) (gapIn image index g) (eqb (g .end) 0)) ⌝ }
 {
     let more = g.end == AT_CHILD;
     let a = on_line(records, texts, style, t, more, p);
@@ -211,7 +211,7 @@ pub fn print_ending(
     p: Printed,
 ) -> Printed
     requires { ⌜ Lies (now index) (now image) (o .last) ⌝ }
-    ensures { λ r. ⌜ Prints (ending (endingOf (now (index .entry)) (now (image .entry)) o)) (held (now (records .entry)) (now (texts .entry)) p) (held (now (records .exit)) (now (texts .exit)) r) ⌝ }
+    ensures { λ r. ⌜ PrintsIn records texts p r (ending (endingOf (now (index .entry)) (now (image .entry)) o)) ⌝ }
 {
     let a = newline_if(records, texts, o.blank, p);
     let last = o.last;
@@ -260,7 +260,7 @@ pub fn open_list(
     p: Printed,
 ) -> Printed
     requires { ⌜ bracket < 50 ⌝ }
-    ensures { λ r. ⌜ Prints (openList (wordAt bracket) (k .0) (conditionTest t)) (held (now (records .entry)) (now (texts .entry)) p) (held (now (records .exit)) (now (texts .exit)) r) ⌝ }
+    ensures { λ r. ⌜ PrintsIn records texts p r (openList (wordAt bracket) (k .0) (conditionTest t)) ⌝ }
 {
     let a = print_word(records, texts, bracket, p);
     let b = print_mark(records, texts, first_mark(k), a);
@@ -273,7 +273,7 @@ pub fn open_list(
 
 // Ends the group and the run of list k, and its block.
 fn end_body(records: &mut [u32], texts: &mut [u8], k: Run, p: Printed) -> Printed
-    ensures { λ r. ⌜ Prints (endBody (k .0)) (held (now (records .entry)) (now (texts .entry)) p) (held (now (records .exit)) (now (texts .exit)) r) ⌝ }
+    ensures { λ r. ⌜ PrintsIn records texts p r (endBody (k .0)) ⌝ }
 {
     let a = print_signal(records, texts, Signal::FinishGroup, p);
     let b = end_run(records, texts, k, a);
@@ -282,7 +282,7 @@ fn end_body(records: &mut [u32], texts: &mut [u8], k: Run, p: Printed) -> Printe
 
 // Repeats the body of list k, and ends the branches.
 fn repeat_body(records: &mut [u32], texts: &mut [u8], k: Run, p: Printed) -> Printed
-    ensures { λ r. ⌜ Prints (repeatBody (k .0)) (held (now (records .entry)) (now (texts .entry)) p) (held (now (records .exit)) (now (texts .exit)) r) ⌝ }
+    ensures { λ r. ⌜ PrintsIn records texts p r (repeatBody (k .0)) ⌝ }
 {
     let a = print_again(records, texts, k, p);
     print_signal(records, texts, Signal::EndIf, a)
@@ -291,7 +291,7 @@ fn repeat_body(records: &mut [u32], texts: &mut [u8], k: Run, p: Printed) -> Pri
 // Closes the bracket of list k.
 fn close_bracket(records: &mut [u32], texts: &mut [u8], bracket: u32, k: Run, p: Printed) -> Printed
     requires { ⌜ bracket < 50 ⌝ }
-    ensures { λ r. ⌜ Prints (closeBracket (wordAt bracket) (k .0)) (held (now (records .entry)) (now (texts .entry)) p) (held (now (records .exit)) (now (texts .exit)) r) ⌝ }
+    ensures { λ r. ⌜ PrintsIn records texts p r (closeBracket (wordAt bracket) (k .0)) ⌝ }
 {
     let a = print_word(records, texts, bracket, p);
     print_mark(records, texts, second_mark(k), a)
@@ -310,7 +310,7 @@ pub fn close_list(
 ) -> Printed
     requires { ⌜ bracket < 50 ⌝ }
     requires { ⌜ Lies (now index) (now image) (o .last) ⌝ }
-    ensures { λ r. ⌜ Prints (closeList (wordAt bracket) (k .0) (endingOf (now (index .entry)) (now (image .entry)) o)) (held (now (records .entry)) (now (texts .entry)) p) (held (now (records .exit)) (now (texts .exit)) r) ⌝ }
+    ensures { λ r. ⌜ PrintsIn records texts p r (closeList (wordAt bracket) (k .0) (endingOf (now (index .entry)) (now (image .entry)) o)) ⌝ }
 {
     let a = print_signal(records, texts, Signal::FinishGroup, p);
     let b = print_ending(records, texts, image, index, o, a);
@@ -334,7 +334,7 @@ pub fn close_arguments(
 ) -> Printed
     requires { ⌜ bracket < 50 ⌝ }
     requires { ⌜ Lies (now index) (now image) (o .last) ⌝ }
-    ensures { λ r. ⌜ Prints (closeArguments (wordAt bracket) (k .0) (endingOf (now (index .entry)) (now (image .entry)) o)) (held (now (records .entry)) (now (texts .entry)) p) (held (now (records .exit)) (now (texts .exit)) r) ⌝ }
+    ensures { λ r. ⌜ PrintsIn records texts p r (closeArguments (wordAt bracket) (k .0) (endingOf (now (index .entry)) (now (image .entry)) o)) ⌝ }
 {
     let a = end_body(records, texts, k, p);
     let b = print_signal(records, texts, Signal::NewLine, a);
@@ -413,7 +413,7 @@ pub fn close_word(l: ListKind) -> u32
 // Whether a list prints as empty: no child, no blank line and nothing behind.
 pub fn is_empty(image: &[u8], index: &[u32], o: Outline) -> bool
     requires { ⌜ Lies (now index) (now image) (o .last) ⌝ }
-    ensures { λ r. ⌜ r ≡ ((eqb (o .children) 0 && not (o .blank)) && isNil (gapAt (now (index .entry)) (now (image .entry)) (o .last) .waiting)) ⌝ }
+    ensures { λ r. ⌜ r ≡ ((eqb (o .children) 0 && not (o .blank)) && isNil (gapIn image index (o .last) .waiting)) ⌝ }
 {
     let last = o.last;
     let nothing = nothing_waits(index, image, last);
@@ -435,7 +435,7 @@ pub fn unasked(s: Span) -> Span
 
 // Opens a local statement with no bind, or with several.
 pub fn open_binds(records: &mut [u32], texts: &mut [u8], p: Printed) -> Printed
-    ensures { λ r. ⌜ Prints (lit "local" ⨟ say indent ⨟ say newline) (held (now (records .entry)) (now (texts .entry)) p) (held (now (records .exit)) (now (texts .exit)) r) ⌝ }
+    ensures { λ r. ⌜ PrintsIn records texts p r (lit "local" ⨟ say indent ⨟ say newline) ⌝ }
 {
     let a = print_word(records, texts, LOCAL, p);
     let b = print_signal(records, texts, Signal::StartIndent, a);
@@ -452,7 +452,7 @@ pub fn close_binds(
     p: Printed,
 ) -> Printed
     requires { ⌜ Lies (now index) (now image) (o .last) ⌝ }
-    ensures { λ r. ⌜ Prints (ending (endingOf (now (index .entry)) (now (image .entry)) o) ⨟ say outdent) (held (now (records .entry)) (now (texts .entry)) p) (held (now (records .exit)) (now (texts .exit)) r) ⌝ }
+    ensures { λ r. ⌜ PrintsIn records texts p r (ending (endingOf (now (index .entry)) (now (image .entry)) o) ⨟ say outdent) ⌝ }
 {
     let a = print_ending(records, texts, image, index, o, p);
     print_signal(records, texts, Signal::FinishIndent, a)

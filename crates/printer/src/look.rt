@@ -24,7 +24,7 @@ ghost use Rattle.children.specs.Between.{Bounded};
 ghost use Rattle.printer.specs.Layout;
 ghost use Rattle.printer.specs.Layout.{asked};
 ghost use Rattle.printer.specs.Rows.{wantAt, wanted, pieceOf};
-ghost use Rattle.printer.specs.Under.{At, partsOf};
+ghost use Rattle.printer.specs.Under.{At, partsIn};
 ghost use Rattle.printer.specs.Reads.{partFor};
 
 // The place behind element i, where its children begin.
@@ -38,7 +38,7 @@ pub fn first_in(image: &[u8], index: &[u32], i: u32) -> u32
 // The first part of a class.
 pub fn first_of(image: &[u8], index: &[u32], i: u32, c: Class) -> Found
     requires { ⌜ At (now image) (now index) i ⌝ }
-    ensures { λ r. ⌜ found r ≡ numberOf (first c (partsOf (now (index .entry)) (now (image .entry)) i)) ⌝ }
+    ensures { λ r. ⌜ found r ≡ numberOf (first c (partsIn image index i)) ⌝ }
 {
     let a = first_in(image, index, i);
     let b = end_at(index, i);
@@ -49,7 +49,7 @@ pub fn first_of(image: &[u8], index: &[u32], i: u32, c: Class) -> Found
 pub fn wanted_part(image: &[u8], index: &[u32], i: u32, w: u32) -> Found
     requires { ⌜ At (now image) (now index) i ⌝ }
     requires { ⌜ w < 34 ⌝ }
-    ensures { λ r. ⌜ found r ≡ numberOf (nth (wantAt w .class) (wantAt w .place) (partsOf (now (index .entry)) (now (image .entry)) i)) ⌝ }
+    ensures { λ r. ⌜ found r ≡ numberOf (nth (wantAt w .class) (wantAt w .place) (partsIn image index i)) ⌝ }
 {
     let a = first_in(image, index, i);
     let b = end_at(index, i);
@@ -60,7 +60,7 @@ pub fn wanted_part(image: &[u8], index: &[u32], i: u32, w: u32) -> Found
 fn is_there(image: &[u8], index: &[u32], i: u32, w: u32) -> bool
     requires { ⌜ At (now image) (now index) i ⌝ }
     requires { ⌜ w < 34 ⌝ }
-    ensures { λ r. ⌜ r ≡ any (Layout.found (partsOf (now (index .entry)) (now (image .entry)) i)) (wanted w) ⌝ }
+    ensures { λ r. ⌜ r ≡ any (Layout.found (partsIn image index i)) (wanted w) ⌝ }
 {
     if w == 0 {
         return false;
@@ -74,7 +74,7 @@ pub fn is_asked(image: &[u8], index: &[u32], i: u32, x: Entry) -> bool
     requires { ⌜ x .given < 34 ⌝ }
     requires { ⌜ x .other < 34 ⌝ }
     requires { ⌜ x .unless < 34 ⌝ }
-    ensures { λ r. ⌜ r ≡ asked (partsOf (now (index .entry)) (now (image .entry)) i) (pieceOf x) ⌝ }
+    ensures { λ r. ⌜ r ≡ asked (partsIn image index i) (pieceOf x) ⌝ }
 {
     let given = is_there(image, index, i, x.given);
     let other = is_there(image, index, i, x.other);
@@ -87,7 +87,7 @@ pub fn is_asked(image: &[u8], index: &[u32], i: u32, x: Entry) -> bool
 pub fn part_of(image: &[u8], index: &[u32], i: u32, x: Entry) -> Found
     requires { ⌜ At (now image) (now index) i ⌝ }
     requires { ⌜ x .want < 34 ⌝ }
-    ensures { λ r. ⌜ found r ≡ numberOf (partFor x (partsOf (now (index .entry)) (now (image .entry)) i)) ⌝ }
+    ensures { λ r. ⌜ found r ≡ numberOf (partFor x (partsIn image index i)) ⌝ }
 {
     if x.what == PART {
         return wanted_part(image, index, i, x.want);
@@ -100,7 +100,7 @@ pub fn part_of(image: &[u8], index: &[u32], i: u32, x: Entry) -> Found
 // The reading between the first tokens of two classes.
 pub fn enclosed(image: &[u8], index: &[u32], i: u32, opening: Class, closing: Class) -> Bounds
     requires { ⌜ At (now image) (now index) i ⌝ }
-    ensures { λ r. ⌜ Bounded (now (index .entry)) (now (image .entry)) (i + 1) (endAt (now (index .entry)) i) (numberOf (first opening (partsOf (now (index .entry)) (now (image .entry)) i))) (numberOf (first closing (partsOf (now (index .entry)) (now (image .entry)) i))) r ⌝ }
+    ensures { λ r. ⌜ Bounded (now (index .entry)) (now (image .entry)) (i + 1) (endAt (now (index .entry)) i) (numberOf (first opening (partsIn image index i))) (numberOf (first closing (partsIn image index i))) r ⌝ }
 {
     let start = first_of(image, index, i, opening);
     let end = first_of(image, index, i, closing);
@@ -121,7 +121,7 @@ fn or_else(first: Found, second: Found) -> Found
 // The second reading of an object comprehension, of its CompSpecs.
 pub fn spec_bounds(image: &[u8], index: &[u32], i: u32) -> Bounds
     requires { ⌜ At (now image) (now index) i ⌝ }
-    ensures { λ r. ⌜ Bounded (now (index .entry)) (now (image .entry)) (i + 1) (endAt (now (index .entry)) i) (numberOf (orElse (last MemberComp (partsOf (now (index .entry)) (now (image .entry)) i)) (first LBrace (partsOf (now (index .entry)) (now (image .entry)) i)))) (numberOf (first RBrace (partsOf (now (index .entry)) (now (image .entry)) i))) r ⌝ }
+    ensures { λ r. ⌜ Bounded (now (index .entry)) (now (image .entry)) (i + 1) (endAt (now (index .entry)) i) (numberOf (orElse (last MemberComp (partsIn image index i)) (first LBrace (partsIn image index i)))) (numberOf (first RBrace (partsIn image index i))) r ⌝ }
 {
     let a = first_in(image, index, i);
     let b = end_at(index, i);

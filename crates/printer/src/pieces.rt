@@ -12,7 +12,7 @@ ghost use mathlib.Core.Path.{_≡_};
 ghost use mathlib.Core.List.{List};
 ghost use Prim.Native.Nat.{ℕ, _<_};
 ghost use Rattle.items.specs.Item.{newline, Print, _⨟_, say, lit, when};
-ghost use Rattle.items.specs.Machine.{held, Prints};
+ghost use Rattle.items.specs.Machine.{held, Prints, PrintsIn};
 ghost use Rattle.tree.specs.Tree.{Part};
 ghost use Rattle.printer.specs.Layout.{signal};
 ghost use Rattle.printer.specs.Rows.{whatOf};
@@ -35,7 +35,7 @@ fn signal_of(what: u32) -> Signal
 pub fn fixed(records: &mut [u32], texts: &mut [u8], x: Entry, p: Printed) -> Printed
     requires { ⌜ x .what < 4 ⌝ }
     requires { ⌜ x .word < 50 ⌝ }
-    ensures { λ r. ⌜ ((pr : ℕ → Print) (ps : List Part) → Prints (what pr ps (whatOf (x .what) (x .want) (x .word))) (held (now (records .entry)) (now (texts .entry)) p) (held (now (records .exit)) (now (texts .exit)) r)) ⌝ }
+    ensures { λ r. ⌜ ((pr : ℕ → Print) (ps : List Part) → PrintsIn records texts p r (what pr ps (whatOf (x .what) (x .want) (x .word)))) ⌝ }
 {
     if x.what == TEXT {
         return print_word(records, texts, x.word, p);
@@ -45,7 +45,7 @@ pub fn fixed(records: &mut [u32], texts: &mut [u8], x: Entry, p: Printed) -> Pri
 
 // A comma and a newline, if each part is to end so.
 pub fn print_end(records: &mut [u32], texts: &mut [u8], ended: bool, p: Printed) -> Printed
-    ensures { λ r. ⌜ Prints (when ended (lit "," ⨟ say newline)) (held (now (records .entry)) (now (texts .entry)) p) (held (now (records .exit)) (now (texts .exit)) r) ⌝ }
+    ensures { λ r. ⌜ PrintsIn records texts p r (when ended (lit "," ⨟ say newline)) ⌝ }
 {
     if !ended {
         return p;

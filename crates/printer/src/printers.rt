@@ -73,7 +73,7 @@ ghost use lib.Dec.{eqb};
 ghost use lib.ListN.{length};
 ghost use Rattle.items.specs.Item.{text, newline, _⨟_, say, lit, when};
 ghost use Rattle.items.specs.Signal.{conditionTest};
-ghost use Rattle.items.specs.Machine.{held, Prints};
+ghost use Rattle.items.specs.Machine.{held, Prints, PrintsIn};
 ghost use Rattle.tree.specs.Answer.{found};
 ghost use Rattle.tree.specs.declared.class.Class.the-variants.{ExprBase, Arg, LParen, RParen, Member, CompSpec, Bind, Local, Semi};
 ghost use Rattle.tree.specs.Class.{kinds, first};
@@ -84,10 +84,10 @@ ghost use Rattle.printer.specs.declared.lists.Style.the-variants.{Specs}
 ghost use Rattle.printer.specs.Layout.{asked, layout};
 ghost use Rattle.printer.specs.Print.{eachOf, what, row, children, list, arguments, compOf, comprehension, localOf, valuesOf, expression};
 ghost use Rattle.printer.specs.Rows.{wordAt, wordOrNone, wantAt, pieceAt};
-ghost use Rattle.printer.specs.Lists.{onLine, behindIt, openerOf, closerOf, childOf, emptyText, openText, closeText};
-ghost use Rattle.printer.specs.Under.{At, Kid, under, printOf, partsOf};
+ghost use Rattle.printer.specs.Lists.{onLine, behindIt, gapIn, openerOf, closerOf, childOf, emptyText, openText, closeText};
+ghost use Rattle.printer.specs.Under.{At, Kid, partsIn, underIn, printOf, partsOf};
 ghost use Rattle.printer.specs.Walked.{around, walked, Outlined};
-ghost use Rattle.printer.specs.Reads.{numberOr, Has, Within, readAt, Whole, kidsIn, Walks};
+ghost use Rattle.printer.specs.Reads.{numberOr, Has, Within, readAt, readIn, Whole, kidsIn, Walks};
 
 // The kinds of nodes that have printers of their own.
 const EXPR: u32 = 2;
@@ -126,7 +126,7 @@ fn token(
     i: u32,
     p: Printed,
 ) -> Printed
-    ensures { λ r. ⌜ Prints (say (text (textAt (now (index .entry)) (now (image .entry)) i))) (held (now (records .entry)) (now (texts .entry)) p) (held (now (records .exit)) (now (texts .exit)) r) ⌝ }
+    ensures { λ r. ⌜ PrintsIn records texts p r (say (text (textAt (now (index .entry)) (now (image .entry)) i))) ⌝ }
 {
     let s = text_at(index, image, i);
     print_text(records, texts, s, p)
@@ -142,7 +142,7 @@ fn node(
     p: Printed,
 ) -> Printed
     requires { ⌜ At (now image) (now index) i ⌝ }
-    ensures { λ r. ⌜ Prints (printOf (now (image .entry)) i) (held (now (records .entry)) (now (texts .entry)) p) (held (now (records .exit)) (now (texts .exit)) r) ⌝ }
+    ensures { λ r. ⌜ PrintsIn records texts p r (printOf (now (image .entry)) i) ⌝ }
 {
     let k = kind_at(index, i);
     if (k >= TOKEN) | (k == VISIBILITY) {
@@ -173,7 +173,7 @@ fn bind(
 ) -> Printed
     requires { ⌜ At (now image) (now index) i ⌝ }
     requires { ⌜ kindAt (now index) i < 64 ⌝ }
-    ensures { λ r. ⌜ Prints (row (under (now (image .entry)) i) (partsOf (now (index .entry)) (now (image .entry)) i) (layout (kindAt (now (index .entry)) i))) (held (now (records .entry)) (now (texts .entry)) p) (held (now (records .exit)) (now (texts .exit)) r) ⌝ }
+    ensures { λ r. ⌜ PrintsIn records texts p r (row (underIn image i) (partsIn image index i) (layout (kindAt (now (index .entry)) i))) ⌝ }
 {
     row(records, texts, image, index, i, p)
 }
@@ -189,7 +189,7 @@ fn member(
 ) -> Printed
     requires { ⌜ At (now image) (now index) i ⌝ }
     requires { ⌜ kindAt (now index) i < 64 ⌝ }
-    ensures { λ r. ⌜ Prints (row (under (now (image .entry)) i) (partsOf (now (index .entry)) (now (image .entry)) i) (layout (kindAt (now (index .entry)) i))) (held (now (records .entry)) (now (texts .entry)) p) (held (now (records .exit)) (now (texts .exit)) r) ⌝ }
+    ensures { λ r. ⌜ PrintsIn records texts p r (row (underIn image i) (partsIn image index i) (layout (kindAt (now (index .entry)) i))) ⌝ }
 {
     row(records, texts, image, index, i, p)
 }
@@ -205,7 +205,7 @@ fn arg(
 ) -> Printed
     requires { ⌜ At (now image) (now index) i ⌝ }
     requires { ⌜ kindAt (now index) i < 64 ⌝ }
-    ensures { λ r. ⌜ Prints (row (under (now (image .entry)) i) (partsOf (now (index .entry)) (now (image .entry)) i) (layout (kindAt (now (index .entry)) i))) (held (now (records .entry)) (now (texts .entry)) p) (held (now (records .exit)) (now (texts .exit)) r) ⌝ }
+    ensures { λ r. ⌜ PrintsIn records texts p r (row (underIn image i) (partsIn image index i) (layout (kindAt (now (index .entry)) i))) ⌝ }
 {
     row(records, texts, image, index, i, p)
 }
@@ -221,7 +221,7 @@ fn row(
 ) -> Printed
     requires { ⌜ At (now image) (now index) i ⌝ }
     requires { ⌜ kindAt (now index) i < 64 ⌝ }
-    ensures { λ r. ⌜ Prints (row (under (now (image .entry)) i) (partsOf (now (index .entry)) (now (image .entry)) i) (layout (kindAt (now (index .entry)) i))) (held (now (records .entry)) (now (texts .entry)) p) (held (now (records .exit)) (now (texts .exit)) r) ⌝ }
+    ensures { λ r. ⌜ PrintsIn records texts p r (row (underIn image i) (partsIn image index i) (layout (kindAt (now (index .entry)) i))) ⌝ }
 {
     let e = row_of(kind_at(index, i));
     let end = e.end;
@@ -246,7 +246,7 @@ fn piece(
 ) -> Printed
     requires { ⌜ At (now image) (now index) i ⌝ }
     requires { ⌜ n < 145 ⌝ }
-    ensures { λ r. ⌜ Prints (when (asked (partsOf (now (index .entry)) (now (image .entry)) i) (pieceAt n)) (what (under (now (image .entry)) i) (partsOf (now (index .entry)) (now (image .entry)) i) (pieceAt n .what))) (held (now (records .entry)) (now (texts .entry)) p) (held (now (records .exit)) (now (texts .exit)) r) ⌝ }
+    ensures { λ r. ⌜ PrintsIn records texts p r (when (asked (partsIn image index i) (pieceAt n)) (what (underIn image i) (partsIn image index i) (pieceAt n .what))) ⌝ }
 {
     let x = entry_at(n);
     if !is_asked(image, index, i, x) {
@@ -276,7 +276,7 @@ pub fn part(
     requires { ⌜ At (now image) (now index) i ⌝ }
     requires { ⌜ Has (partsOf (now index) (now image) i) (found f) ⌝ }
     requires { ⌜ missing < 50 ⌝ }
-    ensures { λ r. ⌜ Prints (numberOr (under (now (image .entry)) i) (wordOrNone missing) (found f)) (held (now (records .entry)) (now (texts .entry)) p) (held (now (records .exit)) (now (texts .exit)) r) ⌝ }
+    ensures { λ r. ⌜ PrintsIn records texts p r (numberOr (underIn image i) (wordOrNone missing) (found f)) ⌝ }
 {
     match f {
         Found::At(j) => node(records, texts, image, index, j.0, p),
@@ -297,7 +297,7 @@ fn each(
     requires { ⌜ At (now image) (now index) i ⌝ }
     requires { ⌜ x .want < 34 ⌝ }
     requires { ⌜ x .word < 50 ⌝ }
-    ensures { λ r. ⌜ Prints (eachOf (under (now (image .entry)) i) (wantAt (x .want) .class) (wordAt (x .word)) (eqb (x .what) 6) (partsOf (now (index .entry)) (now (image .entry)) i)) (held (now (records .entry)) (now (texts .entry)) p) (held (now (records .exit)) (now (texts .exit)) r) ⌝ }
+    ensures { λ r. ⌜ PrintsIn records texts p r (eachOf (underIn image i) (wantAt (x .want) .class) (wordAt (x .word)) (eqb (x .what) 6) (partsIn image index i)) ⌝ }
 {
     let end = end_at(index, i);
     let mut j = first_in(image, index, i);
@@ -323,7 +323,7 @@ fn one(
     requires { ⌜ Kid (now image) (now index) i j ⌝ }
     requires { ⌜ x .want < 34 ⌝ }
     requires { ⌜ x .word < 50 ⌝ }
-    ensures { λ r. ⌜ Prints (eachOf (under (now (image .entry)) i) (wantAt (x .want) .class) (wordAt (x .word)) (eqb (x .what) 6) (partAt (now (index .entry)) (now (image .entry)) j ∷ [])) (held (now (records .entry)) (now (texts .entry)) p) (held (now (records .exit)) (now (texts .exit)) r) ⌝ }
+    ensures { λ r. ⌜ PrintsIn records texts p r (eachOf (underIn image i) (wantAt (x .want) .class) (wordAt (x .word)) (eqb (x .what) 6) (partAt (now (index .entry)) (now (image .entry)) j ∷ [])) ⌝ }
 {
     if !is(kinds_wanted(x.want), kind_at(index, j)) {
         return p;
@@ -343,7 +343,7 @@ fn expr(
     p: Printed,
 ) -> Printed
     requires { ⌜ At (now image) (now index) i ⌝ }
-    ensures { λ r. ⌜ Prints (expression (under (now (image .entry)) i) (partsOf (now (index .entry)) (now (image .entry)) i) (first ExprBase (partsOf (now (index .entry)) (now (image .entry)) i))) (held (now (records .entry)) (now (texts .entry)) p) (held (now (records .exit)) (now (texts .exit)) r) ⌝ }
+    ensures { λ r. ⌜ PrintsIn records texts p r (expression (underIn image i) (partsIn image index i) (first ExprBase (partsIn image index i))) ⌝ }
 {
     let base = first_of(image, index, i, Class::ExprBase);
     let a = first_in(image, index, i);
@@ -376,7 +376,7 @@ fn values(
     p: Printed,
 ) -> Printed
     requires { ⌜ Within (now image) (now index) i z ⌝ }
-    ensures { λ r. ⌜ Prints (valuesOf (under (now (image .entry)) i) (readAt (now (index .entry)) (now (image .entry)) c z none)) (held (now (records .entry)) (now (texts .entry)) p) (held (now (records .exit)) (now (texts .exit)) r) ⌝ }
+    ensures { λ r. ⌜ PrintsIn records texts p r (valuesOf (underIn image i) (readIn image index c z none)) ⌝ }
 {
     let w = kinds_of(c);
     let o = survey(index, image, w, z.loose, z.from, z.to);
@@ -408,7 +408,7 @@ fn kids(
     p: Printed,
 ) -> Printed
     requires { ⌜ Walks (now image) (now index) i (kinds c) loose b first ⌝ }
-    ensures { λ r. ⌜ Prints (walked (under (now (image .entry)) i) (onLine style (conditionTest t)) (behindIt style (conditionTest t)) (spanned (now (index .entry)) (now (image .entry)) (kinds c) loose b first)) (held (now (records .entry)) (now (texts .entry)) p) (held (now (records .exit)) (now (texts .exit)) r) ⌝ }
+    ensures { λ r. ⌜ PrintsIn records texts p r (walked (underIn image i) (onLine style (conditionTest t)) (behindIt style (conditionTest t)) (spanned (now (index .entry)) (now (image .entry)) (kinds c) loose b first)) ⌝ }
 {
     let w = kinds_of(c);
     let mut s = first;
@@ -436,7 +436,7 @@ fn items(
 ) -> Printed
     requires { ⌜ Within (now image) (now index) i z ⌝ }
     requires { ⌜ Whole (readAt (now index) (now image) c z none) ⌝ }
-    ensures { λ r. ⌜ Prints (children (under (now (image .entry)) i) (onLine style (conditionTest t)) (behindIt style (conditionTest t)) (kidsIn (readAt (now (index .entry)) (now (image .entry)) c z none))) (held (now (records .entry)) (now (texts .entry)) p) (held (now (records .exit)) (now (texts .exit)) r) ⌝ }
+    ensures { λ r. ⌜ PrintsIn records texts p r (children (underIn image i) (onLine style (conditionTest t)) (behindIt style (conditionTest t)) (kidsIn (readIn image index c z none))) ⌝ }
 {
     let w = kinds_of(c);
     let s = gap(index, image, w, z.loose, false, z.from, z.to);
@@ -473,7 +473,7 @@ fn child(
     requires { ⌜ Kid (now image) (now index) i j ⌝ }
     requires { ⌜ Lies (now index) (now image) s ⌝ }
     requires { ⌜ Lies (now index) (now image) g ⌝ }
-    ensures { λ r. ⌜ Prints (around (under (now (image .entry)) i) (onLine style (conditionTest t)) (behindIt style (conditionTest t)) (gapAt (now (index .entry)) (now (image .entry)) s) j (gapAt (now (index .entry)) (now (image .entry)) g) (eqb (g .end) 0)) (held (now (records .entry)) (now (texts .entry)) p) (held (now (records .exit)) (now (texts .exit)) r) ⌝ }
+    ensures { λ r. ⌜ PrintsIn records texts p r (around (underIn image i) (onLine style (conditionTest t)) (behindIt style (conditionTest t)) (gapIn image index s) j (gapIn image index g) (eqb (g .end) 0)) ⌝ }
 {
     let a = print_above(records, texts, image, index, s, p);
     let b = node(records, texts, image, index, j, a);
@@ -491,7 +491,7 @@ fn list(
     p: Printed,
 ) -> Printed
     requires { ⌜ At (now image) (now index) i ⌝ }
-    ensures { λ r. ⌜ Prints (list (under (now (image .entry)) i) (emptyText l) (openText l) (closeText l) (enclosed (childOf l) (openerOf l) (closerOf l) (partsOf (now (index .entry)) (now (image .entry)) i))) (held (now (records .entry)) (now (texts .entry)) p) (held (now (records .exit)) (now (texts .exit)) r) ⌝ }
+    ensures { λ r. ⌜ PrintsIn records texts p r (list (underIn image i) (emptyText l) (openText l) (closeText l) (enclosed (childOf l) (openerOf l) (closerOf l) (partsIn image index i))) ⌝ }
 {
     let z = enclosed(image, index, i, opener(l), closer(l));
     let c = child_class(l);
@@ -520,7 +520,7 @@ fn args(
     p: Printed,
 ) -> Printed
     requires { ⌜ At (now image) (now index) i ⌝ }
-    ensures { λ r. ⌜ Prints (arguments (under (now (image .entry)) i) (enclosed Arg LParen RParen (partsOf (now (index .entry)) (now (image .entry)) i))) (held (now (records .entry)) (now (texts .entry)) p) (held (now (records .exit)) (now (texts .exit)) r) ⌝ }
+    ensures { λ r. ⌜ PrintsIn records texts p r (arguments (underIn image i) (enclosed Arg LParen RParen (partsIn image index i))) ⌝ }
 {
     let z = enclosed(image, index, i, Class::LParen, Class::RParen);
     let o = survey(index, image, kinds_of(Class::Arg), z.loose, z.from, z.to);
@@ -555,7 +555,7 @@ fn comp(
     p: Printed,
 ) -> Printed
     requires { ⌜ At (now image) (now index) i ⌝ }
-    ensures { λ r. ⌜ Prints (comprehension (under (now (image .entry)) i) i (partsOf (now (index .entry)) (now (image .entry)) i) (first CompSpec (partsOf (now (index .entry)) (now (image .entry)) i))) (held (now (records .entry)) (now (texts .entry)) p) (held (now (records .exit)) (now (texts .exit)) r) ⌝ }
+    ensures { λ r. ⌜ PrintsIn records texts p r (comprehension (underIn image i) i (partsIn image index i) (first CompSpec (partsIn image index i))) ⌝ }
 {
     let spec = first_of(image, index, i, Class::CompSpec);
     if is_nothing(spec) {
@@ -585,7 +585,7 @@ fn body(
     requires { ⌜ Within (now image) (now index) i y ⌝ }
     requires { ⌜ Lies (now index) (now image) (m .last) ⌝ }
     requires { ⌜ Outlined (now index) (now image) (readAt (now index) (now image) Member y none) m ⌝ }
-    ensures { λ r. ⌜ Prints (compOf (under (now (image .entry)) i) (partsOf (now (index .entry)) (now (image .entry)) i) (readAt (now (index .entry)) (now (image .entry)) Member y none)) (held (now (records .entry)) (now (texts .entry)) p) (held (now (records .exit)) (now (texts .exit)) r) ⌝ }
+    ensures { λ r. ⌜ PrintsIn records texts p r (compOf (underIn image i) (partsIn image index i) (readIn image index Member y none)) ⌝ }
 {
     let z = spec_bounds(image, index, i);
     let w = kinds_of(Class::CompSpec);
@@ -629,7 +629,7 @@ fn specs(
     requires { ⌜ Within (now image) (now index) i z ⌝ }
     requires { ⌜ Lies (now index) (now image) trailing ⌝ }
     requires { ⌜ Whole (readAt (now index) (now image) CompSpec z (some (gapAt (now index) (now image) trailing .waiting))) ⌝ }
-    ensures { λ r. ⌜ Prints (children (under (now (image .entry)) i) (onLine Specs (conditionTest t)) (behindIt Specs (conditionTest t)) (kidsIn (readAt (now (index .entry)) (now (image .entry)) CompSpec z (some (gapAt (now (index .entry)) (now (image .entry)) trailing .waiting))))) (held (now (records .entry)) (now (texts .entry)) p) (held (now (records .exit)) (now (texts .exit)) r) ⌝ }
+    ensures { λ r. ⌜ PrintsIn records texts p r (children (underIn image i) (onLine Specs (conditionTest t)) (behindIt Specs (conditionTest t)) (kidsIn (readIn image index CompSpec z (some (gapIn image index trailing .waiting))))) ⌝ }
 {
     let w = kinds_of(Class::CompSpec);
     let s = lead(index, image, w, z.loose, z.from, z.to);
@@ -677,7 +677,7 @@ fn local(
     p: Printed,
 ) -> Printed
     requires { ⌜ At (now image) (now index) i ⌝ }
-    ensures { λ r. ⌜ Prints (localOf (under (now (image .entry)) i) (enclosed Bind Local Semi (partsOf (now (index .entry)) (now (image .entry)) i)) ⨟ lit ";" ⨟ say newline) (held (now (records .entry)) (now (texts .entry)) p) (held (now (records .exit)) (now (texts .exit)) r) ⌝ }
+    ensures { λ r. ⌜ PrintsIn records texts p r (localOf (underIn image i) (enclosed Bind Local Semi (partsIn image index i)) ⨟ lit ";" ⨟ say newline) ⌝ }
 {
     let a = binds(records, texts, image, index, i, p);
     let b = print_word(records, texts, words::SEMICOLON, a);
@@ -694,7 +694,7 @@ fn binds(
     p: Printed,
 ) -> Printed
     requires { ⌜ At (now image) (now index) i ⌝ }
-    ensures { λ r. ⌜ Prints (localOf (under (now (image .entry)) i) (enclosed Bind Local Semi (partsOf (now (index .entry)) (now (image .entry)) i))) (held (now (records .entry)) (now (texts .entry)) p) (held (now (records .exit)) (now (texts .exit)) r) ⌝ }
+    ensures { λ r. ⌜ PrintsIn records texts p r (localOf (underIn image i) (enclosed Bind Local Semi (partsIn image index i))) ⌝ }
 {
     let z = enclosed(image, index, i, Class::Local, Class::Semi);
     let o = survey(index, image, kinds_of(Class::Bind), z.loose, z.from, z.to);
@@ -733,7 +733,7 @@ fn lone(
     requires { ⌜ Within (now image) (now index) i z ⌝ }
     requires { ⌜ Whole (readAt (now index) (now image) Bind z none) ⌝ }
     requires { ⌜ length (kidsIn (readAt (now index) (now image) Bind z none)) ≡ 1 ⌝ }
-    ensures { λ r. ⌜ Prints (localOf (under (now (image .entry)) i) (readAt (now (index .entry)) (now (image .entry)) Bind z none)) (held (now (records .entry)) (now (texts .entry)) p) (held (now (records .exit)) (now (texts .exit)) r) ⌝ }
+    ensures { λ r. ⌜ PrintsIn records texts p r (localOf (underIn image i) (readIn image index Bind z none)) ⌝ }
 {
     let w = kinds_of(Class::Bind);
     let s = gap(index, image, w, z.loose, false, z.from, z.to);

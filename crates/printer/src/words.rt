@@ -4,7 +4,7 @@ use items::print_text;
 ghost use mathlib.Core.Path.{_≡_};
 ghost use Prim.Native.Nat.{_<_};
 ghost use Rattle.items.specs.Item.{lit};
-ghost use Rattle.items.specs.Machine.{held, Prints};
+ghost use Rattle.items.specs.Machine.{held, Prints, PrintsIn};
 ghost use Rattle.printer.specs.Rows.{wordAt, startOf, wordOrNone};
 
 pub const COMMA: u32 = 1;
@@ -111,7 +111,7 @@ fn start_of(w: u32) -> usize
 // Prints the text with a number.
 pub fn print_word(records: &mut [u32], texts: &mut [u8], w: u32, p: Printed) -> Printed
     requires { ⌜ w < 50 ⌝ }
-    ensures { λ r. ⌜ Prints (lit (wordAt w)) (held (now (records .entry)) (now (texts .entry)) p) (held (now (records .exit)) (now (texts .exit)) r) ⌝ }
+    ensures { λ r. ⌜ PrintsIn records texts p r (lit (wordAt w)) ⌝ }
 {
     let all: &[u8] =
         b", [ ][]{ }{}()locallocal ;/*missing ExprBase*//*missing Expr*//*missing BinaryOperator*//*missing UnaryOperator*//*missing Text*//*missing Number*//*missing Literal*//*missing ObjBody*//*missing ImportKind*//*missing Name*/if  then /*missing core::option::Option<Expr>*/ else function/*missing ParamsDesc*/error ?..?/*missing SliceDesc*//*missing ArgsDesc*//*missing Assertion*//*missing Destruct*/ = /*missing ObjLocal*//*missing FieldName*//*missing Visibility*/for  in for [...:/*missing Bind*/assert : ";
@@ -123,7 +123,7 @@ pub fn print_word(records: &mut [u32], texts: &mut [u8], w: u32, p: Printed) -> 
 // Prints the text with a number, and nothing for number 0.
 pub fn print_optional(records: &mut [u32], texts: &mut [u8], w: u32, p: Printed) -> Printed
     requires { ⌜ w < 50 ⌝ }
-    ensures { λ r. ⌜ Prints (wordOrNone w) (held (now (records .entry)) (now (texts .entry)) p) (held (now (records .exit)) (now (texts .exit)) r) ⌝ }
+    ensures { λ r. ⌜ PrintsIn records texts p r (wordOrNone w) ⌝ }
 {
     if w == 0 {
         return p;

@@ -26,11 +26,11 @@ use Rattle.children.specs.Comments.{comments}
 use Rattle.printer.specs.Combine
 use Rattle.printer.specs.Layout.{What, txt, signal, part, opt, each, plus, Piece, asked, layout, rows}
 use Rattle.printer.specs.Print
-use Rattle.formatter.specs.Tests.{every, everyRow, within-all, class-all, layout-every}
-use Rattle.formatter.specs.Numbers.{signal-sign}
-use Rattle.formatter.specs.Weights
-use Rattle.formatter.specs.Weights.{noted, listed, sum-behind, sum-upTo, heft, taken, Maybe, neither, just, nth-all, plus-all, Of, TameReading, between-tame}
-use Rattle.formatter.specs.Columns.{Column, whole, early, late, note, apart, single, empty, Seen, seeing, column, columns, columns-le, weightOf, whole-sum, plus-sum, note-sum, early-nth, second-nth}
+use Rattle.formatter.proofs.Tests.{every, everyRow, within-all, class-all, layout-every}
+use Rattle.formatter.proofs.Numbers.{signal-sign}
+use Rattle.formatter.proofs.Weights
+use Rattle.formatter.proofs.Weights.{noted, listed, sum-behind, sum-upTo, heft, taken, Maybe, neither, just, nth-all, plus-all, Of, TameReading, between-tame}
+use Rattle.formatter.proofs.Columns.{Column, whole, early, late, note, apart, single, empty, Seen, seeing, column, columns, columns-le, weightOf, whole-sum, plus-sum, note-sum, early-nth, second-nth}
 
 -- Tests over the table of rows: the texts are short, a second part is an expression, parts that are all printed can be in a list, and no part is printed twice.
 
@@ -445,7 +445,7 @@ module _ (m : Item → ℕ) (u : ℕ) (short-le : (x : Item) → short (bytesOf 
     placed-b c (suc (suc n)) h xs = absurd (false≢true h)
 
     signal-b : (x : Signal) → Bounded u (say (signalItem x))
-    signal-b x = say-b (signalItem x) (rw (signal-sign x .untold) refl)
+    signal-b x = say-b (signalItem x) refl
 
     what-b : {xs : List Part} → All H xs → (w : What) → sound w ≡ true → Bounded (fee w * u + columns W (picks w) fresh xs) (Print.what pr xs w)
     unfolding columns sum Print.what

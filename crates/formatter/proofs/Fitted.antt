@@ -4,7 +4,7 @@ use Prim.Native.Nat.{ℕ, _≤_, _<_, _^_}
 use native.Mathlib.Omega.{arith}
 use lib.ListN.{length, length-append}
 use Rattle.text.specs.Basic.{sum, All, ∅, _▹_}
-use Rattle.items.specs.Item.{always, lines, Item, text, newline, spaceOrNewline, tab, indent, outdent, mark, group, groupEnd, block, blockEnd, run, runEnd, again, ifTest, elseItem, endIf, itemsOf}
+use Rattle.items.specs.Item.{always, lines, Item, signal, text, newline, spaceOrNewline, tab, indent, outdent, mark, group, groupEnd, block, blockEnd, run, runEnd, again, ifTest, elseItem, endIf, itemsOf}
 use Rattle.items.specs.Role.{Role, stays, marks, opens, closes, repeats, role, isRun, isMark}
 use Rattle.items.specs.Records.{bytesOf, bytes}
 use Rattle.items.specs.Fitting.{Short, Fits}
@@ -12,29 +12,19 @@ use Rattle.items.specs.Lengths.{lines-short}
 use Rattle.tree.specs.Tree.{treeOf}
 use Rattle.tree.specs.Accepted.{Accepted}
 use Rattle.printer.specs.Print.{sourceFile}
-use Rattle.formatter.specs.Numbers.{numberIn}
-use Rattle.formatter.specs.Agree.{Below, numbers-small}
-use Rattle.formatter.specs.Counted.{records-bound, texts-bound}
+use Rattle.formatter.proofs.Numbers.{numberIn}
+use Rattle.formatter.proofs.Agree.{Below, numbers-small}
+use Rattle.formatter.proofs.Counted.{records-bound, texts-bound}
 
 short : (x : Item) → numberIn x < 2 ^ 32 → length (bytesOf x) < 2 ^ 32 → Short x
 short (text s) h k = omega arith
-short newline h k = omega arith
-short spaceOrNewline h k = omega arith
-short tab h k = omega arith
-short indent h k = omega arith
-short outdent h k = omega arith
+short (signal s) h k = omega arith
 short (mark n) h k = omega arith
-short group h k = omega arith
-short groupEnd h k = omega arith
-short block h k = omega arith
-short blockEnd h k = omega arith
 short (run n) h k = omega arith
 short (runEnd n) h k = omega arith
 short (again n) h k = omega arith
 short (ifTest always) h k = omega arith
 short (ifTest (lines n)) h k = omega arith
-short elseItem h k = omega arith
-short endIf h k = omega arith
 
 -- a text is at most all texts
 all-short : {r : ℕ} {xs : List Item} → All (Below r) xs → r < 2 ^ 31 → length (bytes xs) < 2 ^ 32 → All Short xs

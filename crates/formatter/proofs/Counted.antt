@@ -15,7 +15,7 @@ use Rattle.comments.specs.Made.{excess, comment-made}
 use Rattle.tree.specs.Tree.{Element, elementOf, elements, le32, Forest, nil, tree, forest, choose, texts, countN, countB, textsOf, elementsOf, treeOf}
 use Rattle.tree.specs.Accepted.{Accepted}
 use Rattle.printer.specs.Print.{sourceFile}
-use Rattle.formatter.specs.Bound.{count, Rising, end, node, rising-le, bound}
+use Rattle.formatter.proofs.Bound.{count, Rising, end, node, rising-le, bound}
 
 -- elements that are numbered in turn make a forest whose numbers rise
 rising-go : (a b : Bool) (e : Element) {kids rest : Forest} → Rising (suc (e .number)) kids → Rising (suc (e .number)) rest → Rising (e .number) (choose a b nil (tree e kids rest) rest)

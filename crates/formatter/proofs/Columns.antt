@@ -13,8 +13,8 @@ use Rattle.tree.specs.declared.class.Class.{Class}
 use Rattle.tree.specs.declared.class.Class.the-variants as Class
 use Rattle.tree.specs.Class.{is, ofKind, nthOf, nth, isPlus, plusOf}
 use Rattle.children.specs.Reading.{isNote}
-use Rattle.formatter.specs.Tests.{ofKind-far, every, everywhere}
-use Rattle.formatter.specs.Weights.{noted}
+use Rattle.formatter.proofs.Tests.{ofKind-far, every, everywhere}
+use Rattle.formatter.proofs.Weights.{noted}
 
 -- Some of the parts of a node: all of a class; those of a class whose kind has not been seen before them, or has; trivia and errors.
 pub data Column : Type 0 where

@@ -24,7 +24,7 @@ use Rattle.children.specs.Comments.{comments}
 use Rattle.printer.specs.Layout.{What, txt, signal, part, opt, each, plus, Piece, asked, layout}
 use Rattle.printer.specs.Combine
 use Rattle.printer.specs.Print
-use Rattle.formatter.specs.Numbers.{numberIn, signal-sign}
+use Rattle.formatter.proofs.Numbers.{numberIn, signal-sign}
 use Rattle.formatter.specs.PutBack.{Body, State, bodyOf, emit, opened, closed, put, puts, nothingYet, putBack}
 use Rattle.formatter.specs.Plain
 
