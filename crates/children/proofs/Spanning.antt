@@ -8,7 +8,6 @@ use lib.Dec.{eqb, leb}
 use borrow.Author.Tests.{lt-leb, leb-true}
 use Rattle.tree.specs.declared.class.Kinds.{Kinds}
 use Rattle.tree.specs.Class.{is, oneOf, kinds, allOf}
-use Rattle.text.specs.Basic.{and-true}
 use Rattle.tree.specs.Tree.{Part}
 use Rattle.children.specs.Reading.{isNote}
 use Rattle.children.specs.Gaps.{Go, Turn, turn, code, goCode, triviaTurn, otherTurn, breaks, widen, gaps, turned, startedBy, hadBy, followsBy, startedAfter, hadAfter, addsInline, addsWaiting, ending, widen-none, widen-both}
@@ -19,6 +18,7 @@ use Rattle.tree.specs.Parts.{parts-next, parts-over}
 use Rattle.children.proofs.Walks.{parts-more, all-more}
 use Rattle.tree.specs.declared.class.Class.the-variants as Class
 use Rattle.children.specs.Gaps as G
+use Rattle.text.proofs.Lists.{and-true}
 
 pub go-le : (g : Go) → goCode g ≤ 5
 go-le G.inline = omega arith

@@ -8,7 +8,8 @@ use lib.Dec.{eqb, leb}
 use lib.ListN.{length, length-append, take, drop}
 use borrow.Author.Tests.{le-leb, leb-true, eqb-true, eq-eqb, ne-eqb}
 use Rattle.children.specs.declared.gap.Span.{Span}
-use Rattle.text.specs.Basic.{count, and-true}
+use Rattle.text.specs.Basic.{count}
+use Rattle.text.proofs.Lists.{and-true}
 use Rattle.tree.specs.Tree.{Part}
 use Rattle.tree.specs.Class.{is, ofKind, oneOf, kinds, allOf}
 use Rattle.children.specs.Reading.{newlinesBefore, newlinesBack}

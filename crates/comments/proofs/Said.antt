@@ -9,9 +9,10 @@ use lib.Dec.{leb, eqb}
 use lib.ListN.{length, take, drop, getD, length-drop, drop-of-length-le, take-append-drop}
 use lib.Seq.{drop-cons, drop-drop, take-all, length-take-le}
 use borrow.Author.Tests.{eq-eqb, ne-eqb, lt-ltb, le-leb, leb-true, leb-false}
-use Rattle.text.specs.Basic.{ascii, isNil, firstOr, all, and-true, dropWhile, dropEnd, startsWith}
-use Rattle.text.specs.BlankLines.{drops-commute, dropEnd-twice, blank-lines, kept-lines, first-kept}
+use Rattle.text.specs.Basic.{ascii, isNil, firstOr, all, dropWhile, dropEnd, startsWith}
+use Rattle.text.proofs.BlankLines.{drops-commute, dropEnd-twice, blank-lines, kept-lines, first-kept}
 use Rattle.text.specs.Text.{lines, lineEnd, padding, trimEnd}
+use Rattle.text.proofs.Lists.{and-true}
 use Rattle.items.specs.Item.{Item, text, newline, tab, say}
 use Rattle.items.specs.Machine.{Held, Prints}
 use Rattle.items.specs.Laws.{Says, said, unsaid, Going, going-none, going-more, going-all}

@@ -8,7 +8,8 @@ use Prim.Native.String.{String}
 use native.Mathlib.Omega.{arith}
 use lib.Dec.{leb, eqb}
 use borrow.Author.Tests.{eq-eqb}
-use Rattle.text.specs.Basic.{ascii, isNil, sum, sum-append, All, ∅, _▹_, all-append}
+use Rattle.text.specs.Basic.{ascii, isNil, sum, All, ∅, _▹_}
+use Rattle.text.proofs.Lists.{sum-append, all-append}
 use Rattle.items.specs.Item.{Test, lines, Item, text, newline, spaceOrNewline, tab, indent, outdent, mark, group, groupEnd, block, blockEnd, run, runEnd, again, ifTest, elseItem, endIf, Out, stop, ok, itemsOf, Print, after, next, _⨟_, none, say, says, stopped, lit, when, numbered, openRun, startingAt}
 use Rattle.items.specs.Role.{stays, role, isRun, isMark, runsOf, marksOf}
 use Rattle.items.specs.Signal.{signalItem}

@@ -10,7 +10,8 @@ use native.Mathlib.Nat.{mul-le-mul-right}
 use lib.Dec.{leb, eqb}
 use lib.ListN.{length, length-append}
 use borrow.Author.Tests.{leb-true, eqb-true, eq-eqb, ne-eqb}
-use Rattle.text.specs.Basic.{ascii, isNil, and-true, sum, sum-append, All, ∅, _▹_}
+use Rattle.text.specs.Basic.{ascii, isNil, sum, All, ∅, _▹_}
+use Rattle.text.proofs.Lists.{and-true, sum-append}
 use Rattle.items.specs.Item.{Test, Item, text, newline, spaceOrNewline, indent, outdent, mark, group, groupEnd, block, blockEnd, run, runEnd, again, ifTest, elseItem, endIf, Out, stop, ok, itemsOf, Print, after, next, _⨟_, none, say, says, stopped, lit, when, numbered, openRun}
 use Rattle.items.specs.Records.{bytesOf}
 use Rattle.items.specs.Signal.{signalItem}

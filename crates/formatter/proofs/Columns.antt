@@ -7,7 +7,8 @@ use Prim.Native.Nat.{ℕ, _+_, _*_, _≤_}
 use native.Mathlib.Omega.{arith}
 use lib.Dec.{eqb}
 use borrow.Author.Tests.{ne-eqb, eq-eqb}
-use Rattle.text.specs.Basic.{ascii, sameBytes, and-true, sum}
+use Rattle.text.specs.Basic.{ascii, sameBytes, sum}
+use Rattle.text.proofs.Lists.{and-true}
 use Rattle.tree.specs.Tree.{Part}
 use Rattle.tree.specs.declared.class.Class.{Class}
 use Rattle.tree.specs.declared.class.Class.the-variants as Class

@@ -9,8 +9,9 @@ use native.Mathlib.Omega.{arith}
 use lib.Dec.{eqb}
 use lib.ListN.{length}
 use borrow.Author.Tests.{eqb-true}
-use Rattle.text.specs.Basic.{ascii, any, all, sum, dropWhile, dropEnd, sameBytes, startsWith, count, All, ∅, _▹_, and-true}
+use Rattle.text.specs.Basic.{ascii, any, all, sum, dropWhile, dropEnd, sameBytes, startsWith, count, All, ∅, _▹_}
 use Rattle.text.specs.Text.{follows, afterByte, validFrom, trimEnd, trim, lines as textLines, padding, chars, lead, isWhite, whiteSpace, utf8, isPad}
+use Rattle.text.proofs.Lists.{and-true}
 use Rattle.items.specs.Item.{Test, always, lines, Item, text, newline, spaceOrNewline, mark, group, groupEnd, block, blockEnd, run, runEnd, again, ifTest, elseItem, endIf, _⨟_, none as nothing, say, says, lit, when, numbered, openRun}
 use Rattle.items.specs.Records.{words, bytes, decoded, decoded-is, words-length}
 use Rattle.comments.specs.Comments

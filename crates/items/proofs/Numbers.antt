@@ -6,7 +6,8 @@ use Prim.Native.Nat.{ℕ, _+_, _≤_, _<_, _^_, max}
 use native.Mathlib.Omega.{arith}
 use lib.Dec.{ltb}
 use borrow.Author.Tests.{le-ltb, ltb-true}
-use Rattle.text.specs.Basic.{all, and-true, All, ∅, _▹_}
+use Rattle.text.specs.Basic.{all, All, ∅, _▹_}
+use Rattle.text.proofs.Lists.{and-true}
 use Rattle.items.specs.declared.Count.{Count}
 use Rattle.items.specs.declared.Entry.{Entry}
 use Rattle.items.specs.declared.Printed.the-variants.{Done, Full}

@@ -9,7 +9,8 @@ use lib.Dec.{leb, eqb}
 use lib.ListN.{length, take, drop, length-drop}
 use lib.Seq.{length-take-le}
 use borrow.Author.Tests.{leb-true, eqb-true}
-use Rattle.text.specs.Basic.{within, and-true}
+use Rattle.text.specs.Basic.{within}
+use Rattle.text.proofs.Lists.{and-true}
 use Rattle.items.specs.Item.{always, lines, Item, text, newline, spaceOrNewline, tab, indent, outdent, mark, group, groupEnd, block, blockEnd, run, runEnd, again, ifTest, elseItem, endIf}
 use Rattle.items.specs.Records.{bare, numbered, condition, stored, itemOf}
 use Rattle.items.specs.Lines.{described}

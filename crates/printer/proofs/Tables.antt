@@ -7,9 +7,10 @@ use native.Mathlib.Omega.{arith}
 use lib.Dec.{leb, ltb}
 use lib.ListN.{length, getD, take, drop}
 use borrow.Author.Tests.{eq-eqb, ne-eqb, leb-true, ltb-true}
-use Rattle.text.specs.Basic.{ascii, sum, and-true}
+use Rattle.text.specs.Basic.{ascii, sum}
 use Rattle.text.proofs.Table.{tabled, tabled-at}
 use Rattle.text.proofs.Below.{allBelow, below}
+use Rattle.text.proofs.Lists.{and-true}
 use Rattle.items.specs.Item.{text, none, say, lit}
 use Rattle.items.specs.Machine.{Held, Prints}
 use Rattle.items.specs.Laws.{by}

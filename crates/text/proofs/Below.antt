@@ -5,7 +5,7 @@ use Prim.Native.Nat.{ℕ, zero, suc, _<_}
 use native.Mathlib.Omega.{arith}
 use lib.Dec.{eqb}
 use borrow.Author.Tests.{eqb-true, eqb-false}
-use Rattle.text.specs.Basic.{and-true}
+use Rattle.text.proofs.Lists.{and-true}
 
 -- the test passes at each number below n
 abbrev pub allBelow : ℕ → (ℕ → Bool) → Bool

@@ -10,12 +10,13 @@ use lib.Dec.{eqb}
 use lib.ListN.{length, drop, getD, drop-of-length-le}
 use lib.Seq.{drop-cons}
 use borrow.Author.Tests.{ne-eqb, eqb-true, le-leb, lt-leb}
-use Rattle.text.specs.Basic.{within, and-true}
+use Rattle.text.specs.Basic.{within}
 use Rattle.text.specs.Text.{Range, follows, leadLength, afterByte, nothingOwed, validFrom, valid}
 use Rattle.text.specs.Owed.{lowestTail, highestTail, tails, tailsFrom, owedOf}
 use Rattle.text.specs.declared.utf8.Owed.{Owed}
 use Rattle.text.specs.declared.utf8.Owed.the-variants.{Wrong, Tails}
 use Rattle.text.proofs.Below.{below}
+use Rattle.text.proofs.Lists.{and-true}
 
 pub wrong-owes : (o : Owed) → o ≡ Wrong → false ≡ nothingOwed (owedOf o)
 unfolding owedOf

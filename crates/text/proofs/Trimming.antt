@@ -10,8 +10,8 @@ use lib.Seq.{take-all, take-length, take-add, drop-drop, drop-cons}
 use borrow.Author.Tests.{eqb-true, eqb-false, not-true, not-false}
 use Rattle.text.specs.Basic.{all, dropWhile, dropEnd}
 use Rattle.text.specs.Text.{continues, chars, isWhite, trimEnd, trim}
-use Rattle.text.specs.Ends.{dropEnd-white, dropEnd-stop}
-use Rattle.text.specs.Chars.{isTail, flatten-chars, chars-one, chars-append}
+use Rattle.text.proofs.Ends.{dropEnd-white, dropEnd-stop}
+use Rattle.text.proofs.Chars.{isTail, flatten-chars, chars-one, chars-append}
 use Rattle.text.specs.Places.{CharFrom, CharUpTo, TrimmedEnd, TrimmedStart}
 
 -- what holds at each place of a part of a text holds of all its bytes

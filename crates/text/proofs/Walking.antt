@@ -10,7 +10,7 @@ use lib.ListN.{length, take, drop, getD, drop-of-length-le, length-drop}
 use lib.Seq.{drop-cons, take-all, length-take-le}
 use borrow.Author.Tests.{eq-eqb, ne-eqb, le-leb, lt-leb, not-true, not-false}
 use Rattle.text.specs.Basic.{startsWith, count, firstOr}
-use Rattle.text.specs.Padding.{padding-part, padding-upto}
+use Rattle.text.proofs.Padding.{padding-part, padding-upto}
 use Rattle.text.specs.Text.{isPad, padding, lines, inFirst, lineEnd, endsWith}
 
 -- COMMON PADDING

@@ -7,10 +7,11 @@ use native.Mathlib.Omega.{arith}
 use lib.Dec.{eqb, leb}
 use lib.ListN.{length, getD}
 use borrow.Author.Tests.{eqb-true, leb-true}
-use Rattle.text.specs.Basic.{any, all, and-true, sameBytes}
+use Rattle.text.specs.Basic.{any, all, sameBytes}
 use Rattle.text.specs.Text.{isWhite, whiteSpace, utf8}
-use Rattle.text.specs.White.{either, white-rule}
+use Rattle.text.proofs.WhiteRule.{either, white-rule}
 use Rattle.text.proofs.Below.{below}
+use Rattle.text.proofs.Lists.{and-true}
 
 -- the test of two bytes, read as one number
 abbrev pairTest : ℕ → Bool

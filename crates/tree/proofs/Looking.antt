@@ -7,7 +7,8 @@ use Prim.Native.Nat.{ℕ, zero, suc, _-_, _<_, _≤_}
 use native.Mathlib.Omega.{arith}
 use lib.Dec.{eqb}
 use borrow.Author.Tests.{eqb-true}
-use Rattle.text.specs.Basic.{orElse, and-true}
+use Rattle.text.specs.Basic.{orElse}
+use Rattle.text.proofs.Lists.{and-true}
 use Rattle.tree.specs.Tree.{Part}
 use Rattle.tree.specs.Class.{Kinds, oneOf, isPlus, nthOf, lastOf, plusOf, numberOf}
 use Rattle.tree.specs.Index.{endAt, partAt, partsFrom, Region}

@@ -10,7 +10,6 @@ use lib.Dec.{eqb}
 use lib.ListN.{take, drop}
 use lib.Seq.{drop-drop, take-add}
 use borrow.Author.Tests.{lt-ltb, le-ltb, eqb-true}
-use Rattle.text.specs.Basic.{and-true}
 use Rattle.tree.specs.Tree.{countN, textsOf, elementsOf, Part, nil, tree, forest, treeOf, texts, parts}
 use Rattle.tree.specs.Image.{kindIn, levelIn, sizeIn, startIn, placeIn, textIn, elementIn, elements-cons, elements-none, start-next}
 use Rattle.tree.specs.Refusal.{misplacedAfter, firstMisplaced}
@@ -19,6 +18,7 @@ use Rattle.tree.specs.Accepted.{Accepted, accepted}
 use Rattle.tree.specs.Ends.{endIn, deeperFrom, deeper-here, deeper-not, deeper-over, end-past, end-in, end-deep, end-up, end-under}
 use Rattle.tree.specs.Index.{kindAt, endAt, startAt, Indexed, Table, Region, textAt, partAt, walk, partsFrom}
 use Rattle.tree.specs.Walk.{forest-none, forest-end, forest-here, forest-skip, Placed, well-placed, joined, texts-under}
+use Rattle.text.proofs.Lists.{and-true}
 
 -- ---- texts are parts of the text section
 

@@ -5,8 +5,9 @@ use mathlib.Core.List.{List, [], _∷_}
 use Prim.Native.Nat.{ℕ}
 use lib.Dec.{eqb}
 use borrow.Author.Tests.{eqb-true}
-use Rattle.text.specs.Basic.{any, all, and-true, sameBytes}
+use Rattle.text.specs.Basic.{any, all, sameBytes}
 use Rattle.text.specs.Text.{isWhite, whiteSpace, utf8}
+use Rattle.text.proofs.Lists.{and-true}
 
 same-bytes : (s t : List ℕ) → sameBytes s t ≡ true → s ≡ t
 unfolding sameBytes

@@ -8,10 +8,11 @@ use native.Mathlib.Omega.{arith}
 use lib.Dec.{leb, eqb}
 use lib.ListN.{drop}
 use borrow.Author.Tests.{leb-true, eqb-true, ne-eqb}
-use Rattle.text.specs.Basic.{isNil, firstOr, any, all, and-true, dropWhile, dropEnd, sameBytes}
+use Rattle.text.specs.Basic.{isNil, firstOr, any, all, dropWhile, dropEnd, sameBytes}
 use Rattle.text.specs.Text.{continues, lead, chars, utf8, whiteSpace, isWhite, trimEnd, inFirst, lines}
-use Rattle.text.specs.White.{white-rule}
-use Rattle.text.specs.Chars.{isTail, flatten-chars, chars-one}
+use Rattle.text.proofs.WhiteRule.{white-rule}
+use Rattle.text.proofs.Chars.{isTail, flatten-chars, chars-one}
+use Rattle.text.proofs.Lists.{and-true}
 
 -- LISTS
 

@@ -3,8 +3,9 @@ use mathlib.Core.Path.{_≡_, refl, ap, _∙_}
 use mathlib.Core.Bool.{Bool, true, false, cond}
 use mathlib.Core.List.{List, [], _∷_, _++_, flatten}
 use Prim.Native.Nat.{ℕ}
-use Rattle.text.specs.Basic.{within, firstOr, all, and-true}
+use Rattle.text.specs.Basic.{within, firstOr, all}
 use Rattle.text.specs.Text.{continues, lead, chars}
+use Rattle.text.proofs.Lists.{and-true}
 
 -- a byte that continues a character
 abbrev pub isTail : ℕ → Bool
