@@ -18,7 +18,7 @@ use Rattle.numbers.specs.declared.Element.{Element}
 use Rattle.tree.specs.Class.{is, ofKind, oneOf, numberOf, allOf}
 use Rattle.tree.specs.Answer.{found}
 use Rattle.tree.specs.Index.{Region, kindAt, partAt, partsFrom, endAt}
-use Rattle.tree.specs.Parts.{region-part, region-past, region-next, parts-over}
+use Rattle.tree.proofs.Siblings.{region-part, region-past, region-next, parts-over}
 use Rattle.children.specs.declared.around.Notes.{Notes}
 use Rattle.children.specs.Reading.{upTo, behindPart, upToPart, between, foreignAt, withTrivia, strict, leading, triviaBefore, triviaAfter}
 use Rattle.children.specs.Stretch.{notes, note-kinds, Jumps, here, jumps-le, jumps-next, jumps-behind, Stretch}

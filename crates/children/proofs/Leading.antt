@@ -12,7 +12,7 @@ use Rattle.tree.specs.Index.{Table, Region, partsFrom, partAt, endAt}
 use Rattle.children.specs.Stretch.{Jumps, here, waitingIn, jumps-next}
 use Rattle.children.specs.Spans.{Lies}
 use Rattle.children.specs.Lead.{leads, ledBy, addsError, led, Leads}
-use Rattle.tree.specs.Parts.{parts-next, parts-over}
+use Rattle.tree.proofs.Siblings.{parts-next, parts-over}
 use Rattle.children.proofs.Spanning.{go-le, said, Says, Saying, waiting-none, waiting-follow}
 use Rattle.tree.specs.declared.class.Class.the-variants as Class
 use Rattle.children.specs.Gaps as G

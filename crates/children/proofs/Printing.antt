@@ -6,14 +6,14 @@ use Prim.Native.Nat.{ℕ, _-_, _<_, _≤_}
 use native.Mathlib.Omega.{arith}
 use Rattle.items.specs.Item.{says}
 use Rattle.items.specs.Machine.{Held, Prints}
-use Rattle.items.specs.Laws.{idle, _▸_}
+use Rattle.items.proofs.Laws.{idle, _▸_}
 use Rattle.comments.specs.Comments.{Location, comment}
 use Rattle.tree.specs.Tree.{Part}
 use Rattle.tree.specs.declared.class.Class.the-variants as Class
 use Rattle.tree.specs.declared.class.Kinds.{Kinds}
 use Rattle.tree.specs.Class.{kinds, oneOf, allOf}
 use Rattle.tree.specs.Index.{Region, kindAt, textAt, partAt, partsFrom, endAt}
-use Rattle.tree.specs.Parts.{region-part, region-past, region-next, parts-over}
+use Rattle.tree.proofs.Siblings.{region-part, region-past, region-next, parts-over}
 use Rattle.children.specs.declared.gap.Span.{Span}
 use Rattle.children.specs.Comments.{comments, comments-both}
 use Rattle.children.specs.Stretch.{notes, inlineIn, waitingIn}

@@ -14,7 +14,7 @@ use Rattle.children.specs.Gaps.{Go, Turn, turn, code, goCode, triviaTurn
 use Rattle.tree.specs.Index.{Table, Region, partsFrom, partAt, endAt}
 use Rattle.children.specs.Stretch.{Jumps, here, notes, note-kinds, inlineIn, waitingIn, jumps-le, jumps-next}
 use Rattle.children.specs.Spans.{Spans, Lies, spanned}
-use Rattle.tree.specs.Parts.{parts-next, parts-over}
+use Rattle.tree.proofs.Siblings.{parts-next, parts-over}
 use Rattle.children.proofs.Walks.{parts-more, all-more}
 use Rattle.tree.specs.declared.class.Class.the-variants as Class
 use Rattle.children.specs.Gaps as G

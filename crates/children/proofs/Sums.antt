@@ -18,7 +18,7 @@ use Rattle.tree.specs.Index.{Table, partsFrom, partAt, kindAt, textAt, startAt,
 use Rattle.children.specs.Stretch.{Stretch, Jumps, here, jump, notes, note-kinds, inlineIn, waitingIn, jumps-le, jumps-next}
 use Rattle.children.specs.Spans.{Lies, Errors, Back, Ahead, gapAt}
 use Rattle.children.proofs.Spanning.{not-error}
-use Rattle.tree.specs.Parts.{parts-next, parts-over}
+use Rattle.tree.proofs.Siblings.{parts-next, parts-over}
 use Rattle.children.proofs.Walks.{parts-more, all-more}
 use Rattle.tree.specs.declared.class.Class.the-variants as Class
 

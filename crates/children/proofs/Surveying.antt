@@ -15,7 +15,7 @@ use Rattle.tree.specs.declared.class.Class.the-variants as Class
 use Rattle.tree.specs.declared.class.Kinds.{Kinds}
 use Rattle.tree.specs.Class.{kinds, oneOf, nthOf, numberOf, allOf}
 use Rattle.tree.specs.Index.{Region, partsFrom, partAt, endAt}
-use Rattle.tree.specs.Parts.{region-next, region-past}
+use Rattle.tree.proofs.Siblings.{region-next, region-past}
 use Rattle.children.specs.declared.gap.Span.{Span}
 use Rattle.children.specs.declared.survey.Outline.{Outline}
 use Rattle.children.specs.Gaps as G

@@ -16,7 +16,7 @@ use Rattle.tree.specs.declared.class.Class.the-variants as Class
 use Rattle.tree.specs.Class.{oneOf, ofKind, nthOf, lastOf, numberOf, allOf}
 use Rattle.tree.specs.Answer.{found}
 use Rattle.tree.specs.Index.{Table, Region, partsFrom, endAt}
-use Rattle.tree.specs.Parts.{parts-next, parts-over}
+use Rattle.tree.proofs.Siblings.{parts-next, parts-over}
 use Rattle.children.specs.declared.between.Bounds.{Bounds}
 use Rattle.children.specs.declared.around.Notes.{Notes}
 use Rattle.children.specs.Reading.{behind, upTo, between, pass, start, Around, foreignAt, trivia, leading}

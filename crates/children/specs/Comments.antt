@@ -3,7 +3,7 @@ use mathlib.Core.Path.{_≡_, ap, _∙_, sym}
 use mathlib.Core.List.{List, [], _∷_, _++_}
 use Rattle.items.specs.Item.{Print, _⨟_, none, says}
 use Rattle.items.specs.Machine.{Outcome, run, Held, outcome, Prints}
-use Rattle.items.specs.Laws.{run-seq, run-none}
+use Rattle.items.proofs.Laws.{run-seq, run-none}
 use Rattle.comments.specs.Comments.{Location, comment}
 use Rattle.tree.specs.Tree.{Part}
 

@@ -5,10 +5,9 @@ use Prim.Native.Nat.{ℕ, _+_, _<_, _≤_}
 use native.Mathlib.Omega.{arith}
 use native.Mathlib.Decide.{decLt}
 use Rattle.tree.specs.Tree.{countN}
-use Rattle.tree.specs.Accepted.{accepted}
-use Rattle.tree.specs.Ends.{endIn}
-use Rattle.tree.specs.Index.{endAt, Indexed, Table}
-use Rattle.tree.specs.Children.{Child, child-first, child-next, end-at}
+use Rattle.tree.proofs.Accepted.{accepted}
+use Rattle.tree.specs.Index.{endAt, Indexed, Table, endIn}
+use Rattle.tree.proofs.Children.{Child, child-first, child-next, end-at}
 use Rattle.children.specs.Stretch.{Jumps, here, jump, jumps-le, Stretch}
 
 module _ {image index text : List ℕ} {n : ℕ} (x : Indexed image index) (t : Table index text n) where

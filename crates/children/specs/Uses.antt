@@ -12,7 +12,7 @@ use Rattle.children.specs.declared.survey.Outline.{Outline}
 use Rattle.children.specs.Reading.{pass, start}
 use Rattle.children.specs.Gaps.{Gaps, gaps}
 use Rattle.tree.specs.Index.{Region, partsFrom, partAt, endAt}
-use Rattle.tree.specs.Parts.{region-next}
+use Rattle.tree.proofs.Siblings.{region-next}
 use Rattle.children.specs.Stretch.{Stretch, stretch-both}
 use Rattle.children.specs.Spans.{Spans, spanned, gapAt, Surveyed, surveyed}
 use Rattle.children.specs.Lead.{Leads, SurveyedAfter, whole-after}

@@ -6,7 +6,7 @@ use Prim.Native.Nat.{ℕ, _-_, _<_}
 use native.Mathlib.Omega.{arith}
 use Rattle.tree.specs.declared.class.Kinds.{Kinds}
 use Rattle.tree.specs.Index.{Region, endAt}
-use Rattle.tree.specs.Parts.{region-next, region-past}
+use Rattle.tree.proofs.Siblings.{region-next, region-past}
 use Rattle.children.specs.declared.gap.Span.{Span}
 use Rattle.children.specs.Stretch.{jumps-le}
 use Rattle.children.specs.Spans.{Spans, Surveying}

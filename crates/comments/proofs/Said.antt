@@ -14,8 +14,8 @@ use Rattle.text.proofs.BlankLines.{drops-commute, dropEnd-twice, blank-lines, k
 use Rattle.text.specs.Text.{lines, lineEnd, padding, trimEnd}
 use Rattle.text.proofs.Lists.{and-true}
 use Rattle.items.specs.Item.{Item, text, newline, tab, say}
-use Rattle.items.specs.Machine.{Held, Prints}
-use Rattle.items.specs.Laws.{Says, said, unsaid, Going, going-none, going-more, going-all}
+use Rattle.items.specs.Machine.{Held, Prints, Says}
+use Rattle.items.proofs.Laws.{said, unsaid, Going, going-none, going-more, going-all}
 use Rattle.comments.specs.Comments.{Location, optional, singleLine, common, commonPadding, blockLines, immediate, unpadded, tabbed, oneLine, onOneLine, manyLines, blockOf, multiLine, pieces, comment}
 use Rattle.comments.specs.Rows.{rows, FirstRow, isCut, Piece}
 use Rattle.comments.proofs.Walks.{row-step, rows-none}

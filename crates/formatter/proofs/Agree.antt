@@ -10,12 +10,13 @@ use lib.Dec.{leb, eqb}
 use borrow.Author.Tests.{eq-eqb}
 use Rattle.text.specs.Basic.{ascii, isNil, sum, All, ∅, _▹_}
 use Rattle.text.proofs.Lists.{sum-append, all-append}
-use Rattle.items.specs.Item.{Test, lines, Item, text, newline, spaceOrNewline, tab, indent, outdent, mark, group, groupEnd, block, blockEnd, run, runEnd, again, ifTest, elseItem, endIf, Out, stop, ok, itemsOf, Print, after, next, _⨟_, none, say, says, stopped, lit, when, numbered, openRun, startingAt}
+use Rattle.items.specs.Item.{Test, lines, Item, text, newline, spaceOrNewline, tab, indent, outdent, mark, group, groupEnd, block, blockEnd, run, runEnd, again, ifTest, elseItem, endIf, Out, stop, ok, Print, after, next, _⨟_, none, say, says, stopped, lit, when, numbered, openRun, startingAt}
 use Rattle.items.specs.Role.{stays, role, isRun, isMark, runsOf, marksOf}
 use Rattle.items.specs.Signal.{signalItem}
 use Rattle.items.specs.declared.Signal.{Signal}
+use Rattle.items.proofs.Fits.{itemsOf}
 use Rattle.comments.specs.Comments.{Location, aboveItem, itemInline, endOfItems}
-use Rattle.comments.specs.Every.{comment-all}
+use Rattle.comments.proofs.Every.{comment-all}
 use Rattle.tree.specs.Tree.{Forest, nil, tree, Part, texts, parts}
 use Rattle.tree.specs.Class.{is, nth, first, plusOf}
 use Rattle.tree.specs.declared.class.Class.{Class}

@@ -10,10 +10,11 @@ use lib.ListN.{length, drop}
 use lib.Seq.{drop-append-seam}
 use Rattle.items.specs.Item.{Item, Out, stop, ok}
 use Rattle.items.specs.Role.{runsOf, marksOf}
-use Rattle.items.specs.Records.{words, bytes, Counts, countsOf, overlaid, decoded, decoded-is, words-length}
+use Rattle.items.specs.Records.{words, bytes, Counts, countsOf, overlaid, decoded}
+use Rattle.items.proofs.Decoding.{decoded-is, words-length}
 use Rattle.tree.specs.Tree.{countN, countB, treeOf}
 use Rattle.tree.specs.Refusal.{Refusal, refusal}
-use Rattle.tree.specs.Accepted.{Accepted, accepted}
+use Rattle.tree.proofs.Accepted.{Accepted, accepted}
 use Rattle.listing.specs.Listing.{listing}
 use Rattle.printer.specs.Print.{sourceFile}
 use Rattle.formatter.specs.PutBack.{putBack}

@@ -12,10 +12,11 @@ use lib.ListN.{length, length-append}
 use borrow.Author.Tests.{leb-true, eqb-true, eq-eqb, ne-eqb}
 use Rattle.text.specs.Basic.{ascii, isNil, sum, All, ∅, _▹_}
 use Rattle.text.proofs.Lists.{and-true, sum-append}
-use Rattle.items.specs.Item.{Test, Item, text, newline, spaceOrNewline, indent, outdent, mark, group, groupEnd, block, blockEnd, run, runEnd, again, ifTest, elseItem, endIf, Out, stop, ok, itemsOf, Print, after, next, _⨟_, none, say, says, stopped, lit, when, numbered, openRun}
+use Rattle.items.specs.Item.{Test, Item, text, newline, spaceOrNewline, indent, outdent, mark, group, groupEnd, block, blockEnd, run, runEnd, again, ifTest, elseItem, endIf, Out, stop, ok, Print, after, next, _⨟_, none, say, says, stopped, lit, when, numbered, openRun}
 use Rattle.items.specs.Records.{bytesOf}
 use Rattle.items.specs.Signal.{signalItem}
 use Rattle.items.specs.declared.Signal.{Signal}
+use Rattle.items.proofs.Fits.{itemsOf}
 use Rattle.comments.specs.Comments.{Location, aboveItem, itemInline, endOfItems, comment}
 use Rattle.tree.specs.Tree.{Element, Forest, nil, tree, Part, texts, parts}
 use Rattle.tree.specs.declared.class.Class.{Class}

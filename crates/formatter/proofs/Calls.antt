@@ -8,19 +8,20 @@ use native.Mathlib.Omega.{arith}
 use lib.Dec.{ltb}
 use lib.ListN.{length, drop, length-append}
 use borrow.Author.Tests.{lt-ltb, le-ltb, ltb-false}
-use Rattle.items.specs.Item.{Print, Item, Out, stop, ok, itemsOf}
+use Rattle.items.specs.Item.{Print, Item, Out, stop, ok}
 use Rattle.items.specs.Lines.{recordLines}
-use Rattle.items.specs.Records.{words, bytes, Counts, countsOf, overlaid, decoded, decoded-is}
-use Rattle.items.specs.Machine.{State, halted, reached, run, seen, held, Prints, noCounts, starting}
-use Rattle.items.specs.Fitting.{Fits, run-room, run-empty, run-stopping, from-start, store-overlaid}
+use Rattle.items.specs.Records.{words, bytes, Counts, countsOf, overlaid, decoded}
+use Rattle.items.specs.Machine.{State, halted, reached, run, seen, held, Prints, noCounts}
+use Rattle.items.proofs.Fits.{Fits, run-room, run-empty, run-stopping, from-start, store-overlaid, starting, itemsOf}
 use Rattle.numbers.specs.declared.Element.{Element}
 use Rattle.items.specs.declared.Printed.{Printed as Run}
 use Rattle.items.specs.declared.Printed.the-variants.{Done, Stopped, Full}
+use Rattle.items.proofs.Decoding.{decoded-is}
 use Rattle.tree.specs.Tree.{countN, countB, treeOf}
 use Rattle.tree.specs.Refusal.{Refusal, refusal}
 use Rattle.tree.specs.Answer as tree
 use Rattle.tree.specs.declared.Tested.{Tested}
-use Rattle.tree.specs.Accepted.{accepted}
+use Rattle.tree.proofs.Accepted.{accepted}
 use Rattle.tree.specs.Index.{Indexed}
 use Rattle.listing.specs.Listing.{headLine, listing}
 use Rattle.listing.specs.Writes.{page, Writes}

@@ -8,12 +8,13 @@ use lib.Dec.{ltb, eqb}
 use lib.ListN.{length, length-append, drop, length-take, length-drop}
 use borrow.Author.Tests.{lt-ltb, eqb-true, leb-true}
 use Rattle.text.specs.Basic.{sum}
-use Rattle.items.specs.Item.{Item, itemsOf}
+use Rattle.items.specs.Item.{Item}
 use Rattle.items.specs.Records.{bytesOf, bytes}
+use Rattle.items.proofs.Fits.{itemsOf}
 use Rattle.comments.specs.Comments.{comment}
-use Rattle.comments.specs.Made.{excess, comment-made}
+use Rattle.comments.proofs.Made.{excess, comment-made}
 use Rattle.tree.specs.Tree.{Element, elementOf, elements, le32, Forest, nil, tree, forest, choose, texts, countN, countB, textsOf, elementsOf, treeOf}
-use Rattle.tree.specs.Accepted.{Accepted}
+use Rattle.tree.proofs.Accepted.{Accepted}
 use Rattle.printer.specs.Print.{sourceFile}
 use Rattle.formatter.proofs.Bound.{count, Rising, end, node, rising-le, bound}
 

@@ -4,13 +4,13 @@ use Prim.Native.Nat.{ℕ, _≤_, _<_, _^_}
 use native.Mathlib.Omega.{arith}
 use lib.ListN.{length, length-append}
 use Rattle.text.specs.Basic.{sum, All, ∅, _▹_}
-use Rattle.items.specs.Item.{always, lines, Item, signal, text, newline, spaceOrNewline, tab, indent, outdent, mark, group, groupEnd, block, blockEnd, run, runEnd, again, ifTest, elseItem, endIf, itemsOf}
+use Rattle.items.specs.Item.{always, lines, Item, signal, text, newline, spaceOrNewline, tab, indent, outdent, mark, group, groupEnd, block, blockEnd, run, runEnd, again, ifTest, elseItem, endIf}
 use Rattle.items.specs.Role.{Role, stays, marks, opens, closes, repeats, role, isRun, isMark}
 use Rattle.items.specs.Records.{bytesOf, bytes}
-use Rattle.items.specs.Fitting.{Short, Fits}
-use Rattle.items.specs.Lengths.{lines-short}
+use Rattle.items.proofs.Fits.{Short, Fits, itemsOf}
+use Rattle.items.proofs.Lengths.{lines-short}
 use Rattle.tree.specs.Tree.{treeOf}
-use Rattle.tree.specs.Accepted.{Accepted}
+use Rattle.tree.proofs.Accepted.{Accepted}
 use Rattle.printer.specs.Print.{sourceFile}
 use Rattle.formatter.proofs.Numbers.{numberIn}
 use Rattle.formatter.proofs.Agree.{Below, numbers-small}

@@ -5,7 +5,7 @@ use mathlib.Core.List.{List}
 use Prim.Native.Nat.{ℕ, _*_, _<_, _^_}
 use native.Mathlib.Omega.{arith}
 use lib.ListN.{length, length-replicate, length-append}
-use Rattle.items.specs.Fitting.{store-overlaid}
+use Rattle.items.proofs.Fits.{store-overlaid}
 use Rattle.listing.specs.Listing.{listing, refusedLine}
 use Rattle.listing.specs.Refused.{refused-short}
 use Rattle.listing.specs.Writes.{page, Writes, kept}

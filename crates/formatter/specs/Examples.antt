@@ -13,7 +13,8 @@ use Rattle.text.specs.Basic.{ascii, any, all, sum, dropWhile, dropEnd, sameByte
 use Rattle.text.specs.Text.{follows, afterByte, validFrom, trimEnd, trim, lines as textLines, padding, chars, lead, isWhite, whiteSpace, utf8, isPad}
 use Rattle.text.proofs.Lists.{and-true}
 use Rattle.items.specs.Item.{Test, always, lines, Item, text, newline, spaceOrNewline, mark, group, groupEnd, block, blockEnd, run, runEnd, again, ifTest, elseItem, endIf, _⨟_, none as nothing, say, says, lit, when, numbered, openRun}
-use Rattle.items.specs.Records.{words, bytes, decoded, decoded-is, words-length}
+use Rattle.items.specs.Records.{words, bytes, decoded}
+use Rattle.items.proofs.Decoding.{decoded-is, words-length}
 use Rattle.comments.specs.Comments
 use Rattle.comments.specs.Comments.{Location, aboveItem, itemInline, multiLine, singleLine, blockOf, blockLines, immediate, common, commonPadding, unpadded, tabbed, oneLine, onOneLine, manyLines}
 use Rattle.tree.specs.Tree.{le16, le32, countN, countB, textsOf, elements, elementsOf, forest, texts, parts}

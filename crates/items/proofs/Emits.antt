@@ -27,8 +27,8 @@ use Rattle.items.specs.Role.{role, isRun}
 use Rattle.items.specs.Records.{recordOf, bytesOf}
 use Rattle.items.specs.Signal.{signalItem, conditionTest}
 use Rattle.items.specs.Machine.{State, store, counted, printable, emitted, emitAll, onward, reaching, finish, run, seen, held, Prints, nextRun}
-use Rattle.items.specs.Lengths.{line-length}
-use Rattle.items.specs.Laws.{Ended, stops, fills}
+use Rattle.items.proofs.Lengths.{line-length}
+use Rattle.items.proofs.Laws.{Ended, stops, fills}
 use Rattle.items.specs.Entry.{entryOf, plainEntry, storeEntry, advanced, continued, Emitted}
 use Rattle.items.proofs.Printed.{the-type}
 

@@ -1,5 +1,10 @@
--- Laws that belong to no one function.
-pub mod Emits
-pub mod Lent
-pub mod Numbers
-pub mod Stores
+-- Laws that belong to no one function. Those of a `pub mod` are cited by other crates.
+pub mod Decimals
+pub mod Decoding
+mod Emits
+pub mod Fits
+pub mod Laws
+pub mod Lengths
+mod Lent
+mod Numbers
+mod Stores

@@ -14,7 +14,7 @@ use Rattle.items.specs.declared.Printed.the-variants.{Done, Full}
 use Rattle.items.specs.declared.Room.{Room}
 use Rattle.items.specs.declared.Room.the-variants.{Line, Nowhere}
 use Rattle.items.specs.Machine.{fit}
-use Rattle.items.specs.Fitting.{fit-true}
+use Rattle.items.proofs.Fits.{fit-true}
 use Rattle.items.specs.Entry.{InRange, lineOf, grownBy, grownWith, roomFor, advanced}
 
 -- the largest of n and the numbers after it

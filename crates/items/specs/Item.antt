@@ -63,11 +63,6 @@ pub data Out : Type 0 where
 abbrev pub Print : Type 0
 Print = ℕ → Out
 
--- the items that a printing gives, all of them or until it stops
-abbrev pub itemsOf : Out → List Item
-itemsOf (stop xs e) = xs
-itemsOf (ok xs k) = xs
-
 -- items in front of what a printing gives
 abbrev pub after : List Item → Out → Out
 after xs (stop ys e) = stop (xs ++ ys) e

@@ -2,12 +2,8 @@
 pub mod Item
 pub mod Role
 pub mod Lines
-pub mod Decimals
 pub mod Names
 pub mod Records
 pub mod Signal
 pub mod Machine
-pub mod Laws
-pub mod Fitting
-pub mod Lengths
 pub mod Entry

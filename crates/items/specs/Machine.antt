@@ -12,7 +12,7 @@ use lib.Seq.{sets}
 use Rattle.text.specs.Basic.{all}
 use Rattle.items.specs.declared.Printed.{Printed}
 use Rattle.items.specs.declared.Printed.the-variants.{Done, Stopped, Full}
-use Rattle.items.specs.Item.{Item, Out, stop, ok, Print}
+use Rattle.items.specs.Item.{Item, Out, stop, ok, Print, says}
 use Rattle.items.specs.Role.{role, isRun, isMark}
 use Rattle.items.specs.Lines.{recordLine}
 use Rattle.items.specs.Records.{recordOf, bytesOf, Counts}
@@ -130,13 +130,29 @@ pub record Prints (q : Print) (o a : Held) : Type 0 where
   pub sameRecords : length (a .records) ≡ length (o .records)
   pub sameTexts : length (a .texts) ≡ length (o .texts)
 
+-- The contract of a printer of items that take no number: printing xs takes o to a.
+pub record Says (xs : List Item) (o a : Held) : Type 0 where
+  pub prints : Prints (says xs) o a
+
 -- a slice lent to a call, at its entry and at its exit
 abbrev pub Lent : Type 0
 Lent = Both (RefT (List ℕ)) (RefT (List ℕ))
 
--- the contract of a printer that is lent the records and the texts, is handed p and answers r
+-- what a printer that is lent the records and the texts is handed with p
+abbrev handed : Lent → Lent → Printed → Held
+handed records texts p = held (records .entry .now) (texts .entry .now) p
+
+-- what it leaves, where it answers r
+abbrev left : Lent → Lent → Printed → Held
+left records texts r = held (records .exit .now) (texts .exit .now) r
+
+-- the contract of a printer that is lent the records and the texts, is handed p and answers r: it prints q
 abbrev pub PrintsIn : Lent → Lent → Printed → Printed → Print → Type 0
-PrintsIn records texts p r q = Prints q (held (records .entry .now) (texts .entry .now) p) (held (records .exit .now) (texts .exit .now) r)
+PrintsIn records texts p r q = Prints q (handed records texts p) (left records texts r)
+
+-- the same of a printer of items that take no number: it prints xs
+abbrev pub SaysIn : Lent → Lent → Printed → Printed → List Item → Type 0
+SaysIn records texts p r xs = Says xs (handed records texts p) (left records texts r)
 
 -- the number that the next list gets, 0 where printing does not go on
 unfoldable pub nextRun : Printed → ℕ
@@ -147,7 +163,3 @@ nextRun Full = 0
 -- no counts yet
 abbrev pub noCounts : Counts
 noCounts = record { records = 0; texts = 0; runs = 0; marks = 0; lines = 0 }
-
--- before the first item
-abbrev pub starting : List ℕ → List ℕ → Outcome
-starting rs ts = reached (record { records = rs; texts = ts; count = noCounts }) 0

@@ -6,7 +6,7 @@ use lib.ListN.{length, length-append}
 use Rattle.items.specs.Records.{Counts}
 use Rattle.items.specs.Lines.{field}
 use Rattle.items.specs.Names.{names, nameAt}
-use Rattle.items.specs.Lengths.{field-short}
+use Rattle.items.proofs.Lengths.{field-short}
 use Rattle.listing.specs.Listing.{headLine}
 
 module _ (c : Counts) where

@@ -2,7 +2,7 @@
 use Prim.Native.Nat.{ℕ, _<_, _≤_, _^_}
 use native.Mathlib.Omega.{arith}
 use lib.ListN.{length, length-append}
-use Rattle.items.specs.Decimals.{decimal-wide}
+use Rattle.items.proofs.Decimals.{decimal-wide}
 use Rattle.listing.specs.Listing.{refusedLine}
 
 pub refused-short : (n e : ℕ) → n < 2 ^ 64 → e < 2 ^ 64 → length (refusedLine n e) ≤ 50

@@ -7,7 +7,7 @@ use native.Mathlib.Nat.{add-zero}
 use lib.ListN.{length, length-append}
 use lib.Seq.{length-sets}
 use Rattle.items.specs.Machine.{store}
-use Rattle.items.specs.Fitting.{store-append}
+use Rattle.items.proofs.Fits.{store-append}
 
 -- A lent buffer, and the place of the next byte.
 pub record Page : Type 0 where

@@ -5,7 +5,7 @@ use mathlib.Core.List.{List}
 use Prim.Native.Nat.{ℕ, _*_}
 use Rattle.items.specs.Item.{Test, always, lines, mark, Print, say, lit, when}
 use Rattle.items.specs.Machine.{Held, Prints}
-use Rattle.items.specs.Laws.{idle}
+use Rattle.items.proofs.Laws.{idle}
 use Rattle.items.specs.declared.Signal.{Signal}
 use Rattle.items.specs.Signal.{signalItem}
 use Rattle.tree.specs.Tree.{Part}

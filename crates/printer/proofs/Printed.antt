@@ -13,7 +13,7 @@ use Rattle.items.specs.declared.Condition.{Condition}
 use Rattle.items.specs.Item.{newline, indent, outdent, group, Print, _⨟_, say, stopped, lit}
 use Rattle.items.specs.Signal.{conditionTest}
 use Rattle.items.specs.Machine.{Held, held, Prints, nextRun}
-use Rattle.items.specs.Laws.{by, _▸_, numbers}
+use Rattle.items.proofs.Laws.{by, _▸_, numbers}
 use Rattle.tree.specs.Tree.{Part}
 use Rattle.tree.specs.declared.class.Class.{Class}
 use Rattle.tree.specs.declared.class.Class.the-variants as Class

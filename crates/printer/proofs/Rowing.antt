@@ -14,14 +14,14 @@ use Rattle.text.specs.Basic.{ascii, isNil}
 use Rattle.text.proofs.Table.{tabled-at}
 use Rattle.items.specs.Item.{Print, _⨟_, none, lit, when, say, newline}
 use Rattle.items.specs.Machine.{Held, Prints}
-use Rattle.items.specs.Laws.{_▸_, by, idle}
-use Rattle.tree.specs.Accepted.{or-false}
+use Rattle.items.proofs.Laws.{_▸_, by, idle}
+use Rattle.tree.proofs.Accepted.{or-false}
 use Rattle.tree.specs.Tree.{Part}
 use Rattle.tree.specs.declared.class.Class.{Class}
 use Rattle.tree.specs.declared.class.Kinds.{Kinds}
 use Rattle.tree.specs.Class.{kinds, oneOf, nth, plusOf, numberOf}
 use Rattle.tree.specs.Index.{kindAt, endAt, partAt, partsFrom, Region}
-use Rattle.tree.specs.Parts.{region-part, region-past, region-next, parts-over}
+use Rattle.tree.proofs.Siblings.{region-part, region-past, region-next, parts-over}
 use Rattle.children.specs.Stretch.{Stretch, stretch-none, stretch-both}
 use Rattle.printer.specs.declared.rows.Entry.{Entry}
 use Rattle.printer.specs.declared.rows.Extent.{Extent}

@@ -6,7 +6,7 @@ use Prim.Native.Nat.{ℕ, _+_}
 use Rattle.items.specs.Item.{newline, _⨟_, say, stopped, lit}
 use Rattle.comments.specs.Comments.{aboveItem, endOfItems}
 use Rattle.tree.specs.Tree.{Part, treeOf}
-use Rattle.tree.specs.Accepted.{accepted}
+use Rattle.tree.proofs.Accepted.{accepted}
 use Rattle.tree.specs.Answer.{found}
 use Rattle.tree.specs.declared.class.Class.the-variants as Class
 use Rattle.tree.specs.Class.{first, numberOf, allOf}

@@ -13,7 +13,7 @@ use Rattle.text.proofs.Below.{allBelow, below}
 use Rattle.text.proofs.Lists.{and-true}
 use Rattle.items.specs.Item.{text, none, say, lit}
 use Rattle.items.specs.Machine.{Held, Prints}
-use Rattle.items.specs.Laws.{by}
+use Rattle.items.proofs.Laws.{by}
 use Rattle.tree.specs.Class.{kinds}
 use Rattle.printer.specs.declared.rows.Entry.{Entry}
 use Rattle.printer.specs.declared.rows.Extent.{Extent}

@@ -9,12 +9,12 @@ use lib.Dec.{eqb}
 use lib.ListN.{length}
 use Rattle.items.specs.Item.{Test, Print, stopped}
 use Rattle.items.specs.Machine.{Held, Prints}
-use Rattle.items.specs.Laws.{by}
+use Rattle.items.proofs.Laws.{by}
 use Rattle.tree.specs.declared.class.Class.{Class}
 use Rattle.tree.specs.declared.class.Kinds.{Kinds}
 use Rattle.tree.specs.Class.{kinds}
 use Rattle.tree.specs.Index.{Region, endAt}
-use Rattle.tree.specs.Children.{table}
+use Rattle.tree.proofs.Children.{table}
 use Rattle.children.specs.declared.between.Bounds.{Bounds}
 use Rattle.children.specs.declared.gap.Span.{Span}
 use Rattle.children.specs.declared.survey.Outline.{Outline}

@@ -13,7 +13,7 @@ use Rattle.tree.specs.declared.class.Class.{Class}
 use Rattle.tree.specs.declared.class.Kinds.{Kinds}
 use Rattle.tree.specs.Class.{kinds, nth, plusOf, numberOf}
 use Rattle.tree.specs.Index.{Region, partsFrom, endAt}
-use Rattle.tree.specs.Children.{table}
+use Rattle.tree.proofs.Children.{table}
 use Rattle.children.specs.declared.between.Bounds.{Bounds}
 use Rattle.children.specs.declared.gap.Span.{Span}
 use Rattle.children.specs.Reading.{Child, Ending, Reading, foreign, read, pass, start}

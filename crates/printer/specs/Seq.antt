@@ -3,7 +3,7 @@ use mathlib.Core.Path.{_≡_, refl}
 use mathlib.Core.List.{List, [], _++_, append-nil, append-assoc}
 use Rattle.items.specs.Item.{Item, Out, stop, ok, Print, after, next, _⨟_, none}
 use Rattle.items.specs.Machine.{Held, Prints}
-use Rattle.items.specs.Laws.{idle, _▸_, by}
+use Rattle.items.proofs.Laws.{idle, _▸_, by}
 
 after-both : (xs ys : List Item) (o : Out) → after (xs ++ ys) o ≡ after xs (after ys o)
 after-both xs ys (stop zs e) = rw (append-assoc xs ys zs)

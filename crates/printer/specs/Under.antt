@@ -11,16 +11,17 @@ use borrow.Author.Tests.{eq-eqb, ne-eqb, eqb-true, ltb-false, not-false}
 use Rattle.items.specs.Item.{Print, text, say}
 use Rattle.items.specs.Machine.{Lent}
 use Rattle.tree.specs.Tree.{Forest, nil, Part, countN, elementsOf, forest, treeOf, texts, parts}
-use Rattle.tree.specs.Image.{kindIn, levelIn, sizeIn, textIn, elementIn, elements-cons, elements-none}
+use Rattle.tree.specs.Image.{kindIn, levelIn, sizeIn, textIn, elementIn}
 use Rattle.tree.specs.Refusal.{nodeWithText}
-use Rattle.tree.specs.Search.{where-never}
-use Rattle.tree.specs.Accepted.{Accepted, accepted}
-use Rattle.tree.specs.Ends.{endIn, end-in, end-deep}
-use Rattle.tree.specs.Walk.{forest-none, forest-end, forest-here, forest-below}
-use Rattle.tree.specs.Index.{kindAt, endAt, textAt, partsFrom, Indexed, Region}
+use Rattle.tree.proofs.FirstWhere.{where-never}
+use Rattle.tree.proofs.Accepted.{Accepted, accepted}
+use Rattle.tree.proofs.Ends.{end-in, end-deep}
+use Rattle.tree.proofs.Walk.{forest-none, forest-end, forest-here, forest-below}
+use Rattle.tree.specs.Index.{kindAt, endAt, textAt, partsFrom, Indexed, Region, endIn}
 use Rattle.tree.specs.Class.{first}
 use Rattle.tree.specs.declared.class.Class.the-variants as Class
-use Rattle.tree.specs.Children.{Child, next-placed, text-under, tree-root, root-level, kind-at, end-at, text-at, children, child-within, table, region-of}
+use Rattle.tree.proofs.Children.{Child, next-placed, text-under, tree-root, root-level, kind-at, end-at, text-at, children, child-within, table, region-of}
+use Rattle.tree.proofs.Elements.{elements-cons, elements-none}
 use Rattle.children.specs.Stretch.{Stretch}
 use Rattle.children.specs.Between.{has, among}
 use Rattle.children.specs.Kids.{jumped, stretched}

@@ -6,8 +6,8 @@ use native.Mathlib.Omega.{arith}
 use lib.ListN.{getD}
 use Rattle.tree.specs.Tree.{countN}
 use Rattle.tree.specs.Image.{levelIn}
-use Rattle.tree.specs.Ends.{endIn, deeperFrom, deeper-not, deeper-over, deeper-jump, end-past, end-in}
-use Rattle.tree.specs.Index.{IndexedFrom, endAt}
+use Rattle.tree.proofs.Ends.{deeperFrom, deeper-not, deeper-over, deeper-jump, end-past, end-in}
+use Rattle.tree.specs.Index.{IndexedFrom, endAt, endIn}
 
 -- What lies between i and j is deeper than i.
 pub record Ending (image : List ℕ) (i j : ℕ) : Type 0 where

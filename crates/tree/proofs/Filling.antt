@@ -7,10 +7,10 @@ use native.Mathlib.Decide.{ℕ-discrete}
 use lib.ListN.{length, getD, set, drop, length-set}
 use lib.Seq.{getD-set-same, getD-set-other, drop-set-lt}
 use Rattle.tree.specs.Tree.{countN}
-use Rattle.tree.specs.Image.{kindIn, sizeIn, placeIn, start-next}
-use Rattle.tree.specs.Accepted.{Accepted, accepted}
-use Rattle.tree.specs.Ends.{endIn}
-use Rattle.tree.specs.Index.{kindAt, endAt, startAt, Entry, indexSize, IndexedFrom, Indexable, Filled}
+use Rattle.tree.specs.Image.{kindIn, sizeIn, placeIn}
+use Rattle.tree.proofs.Accepted.{Accepted, accepted}
+use Rattle.tree.specs.Index.{kindAt, endAt, startAt, Entry, indexSize, IndexedFrom, Indexable, Filled, endIn}
+use Rattle.tree.proofs.Elements.{start-next}
 
 -- a table after one, two and three numbers of an entry were written
 abbrev put₁ : List ℕ → ℕ → ℕ → List ℕ

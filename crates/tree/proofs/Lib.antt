@@ -1,15 +1,22 @@
--- Laws of the proofs.
-pub mod Search
-pub mod Sums
-pub mod Parts
-pub mod Comments
-pub mod Verdict
-pub mod Ending
-pub mod Filling
-pub mod Classes
-pub mod Looking
-pub mod Numbers
-pub mod Lengths
-pub mod Stepping
-pub mod Reading
-pub mod Answers
+-- Laws that belong to no one function. Those of a `pub mod` are cited by other crates.
+pub mod Accepted
+mod Answers
+pub mod Children
+mod Classes
+mod Comments
+pub mod Elements
+mod Ending
+pub mod Ends
+mod Filling
+pub mod FirstWhere
+mod Lengths
+mod Looking
+mod Numbers
+mod Parts
+mod Reading
+mod Search
+pub mod Siblings
+mod Stepping
+mod Sums
+mod Verdict
+pub mod Walk

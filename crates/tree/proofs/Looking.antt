@@ -12,7 +12,7 @@ use Rattle.text.proofs.Lists.{and-true}
 use Rattle.tree.specs.Tree.{Part}
 use Rattle.tree.specs.Class.{Kinds, oneOf, isPlus, nthOf, lastOf, plusOf, numberOf}
 use Rattle.tree.specs.Index.{endAt, partAt, partsFrom, Region}
-use Rattle.tree.specs.Parts.{region-part, region-past, region-next, parts-over}
+use Rattle.tree.proofs.Siblings.{region-part, region-past, region-next, parts-over}
 
 -- G is what the walk gives of the siblings that are left; v is what the whole walk gives.
 pub record Looking {A : Type 0} (index text : List ℕ) (b : ℕ) (G : List Part → A) (v : A) (j : ℕ) : Type 0 where

@@ -5,7 +5,8 @@ use Prim.Native.Nat.{ℕ, _+_, _*_}
 use native.Mathlib.Nat.{add-zero}
 use lib.ListN.{drop}
 use Rattle.tree.specs.Tree.{le16, le32}
-use Rattle.tree.specs.Image.{headerAt, kindIn, levelIn, sizeIn, le16-drop, le32-drop, level-in, size-in}
+use Rattle.tree.specs.Image.{headerAt, kindIn, levelIn, sizeIn}
+use Rattle.tree.proofs.Elements.{le16-drop, le32-drop, level-in, size-in}
 
 -- a number of any width: f reads it, and in what stands from a place on reads what stands there
 pub number-as :

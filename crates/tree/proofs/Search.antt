@@ -10,9 +10,10 @@ use lib.Dec.{eqb}
 use lib.ListN.{drop}
 use borrow.Author.Tests.{lt-ltb, le-ltb, not-true, not-false}
 use Rattle.tree.specs.Tree.{countN, elementsOf}
-use Rattle.tree.specs.Image.{kindIn, levelIn, elementIn, elements-cons, elements-none}
+use Rattle.tree.specs.Image.{kindIn, levelIn, elementIn}
 use Rattle.tree.specs.Refusal.{firstMisplaced, noIdent}
-use Rattle.tree.specs.Search.{Search, misplacedFrom}
+use Rattle.tree.proofs.FirstWhere.{Search, misplacedFrom}
+use Rattle.tree.proofs.Elements.{elements-cons, elements-none}
 
 -- G i is what the walk from element i on gives; v is what the whole walk gives.
 pub record Walking {A : Type 0} (image : List ℕ) (G : ℕ → A) (v : A) (i : ℕ) : Type 0 where

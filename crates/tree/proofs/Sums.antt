@@ -8,12 +8,13 @@ use native.Mathlib.Numerals.{add-one}
 use Rattle.text.specs.Basic.{sum}
 use borrow.Author.Tests.{eq-eqb, ne-eqb}
 use Rattle.tree.specs.Tree.{Element, countN, countB, elementsOf}
-use Rattle.tree.specs.Image.{sizeIn, startIn, sizes-all}
+use Rattle.tree.specs.Image.{sizeIn, startIn}
 use Rattle.tree.specs.Refusal.{firstWhere, nodeWithText, wrongSizes}
 use Rattle.tree.specs.Answer.{found}
 use Rattle.numbers.specs.declared.Element as number
 use Rattle.tree.specs.declared.Found.{Found}
 use Rattle.tree.specs.declared.Found.the-variants.{At, Nothing}
+use Rattle.tree.proofs.Elements.{sizes-all}
 
 -- The sum so far; each length is below 2 ^ 32.
 pub record Summing (image : List ℕ) (total i : ℕ) : Type 0 where

@@ -1,9 +1,7 @@
 -- What the code answers, in document 01's numbers.
-use mathlib.Core.Path.{_≡_, refl}
 use mathlib.Core.Option.{Option, none, some}
 use mathlib.Core.List.{List}
 use Prim.Native.Nat.{ℕ}
-use native.Mathlib.Omega.{arith}
 use Rattle.tree.specs.Tree.{countN, countB}
 use Rattle.tree.specs.Refusal.{Refusal, refusal}
 use Rattle.tree.specs.declared.Found.{Found}
@@ -46,17 +44,3 @@ said (StringBlock e) = refuse 7 (e .0)
 said (Misformed e) = refuse 8 (e .0)
 said (Nameless e) = refuse 9 (e .0)
 said (Accepted n b) = passed n b
-
--- What follows from an answer that an image passed.
-pub record Passing (image : List ℕ) (n b : ℕ) : Type 0 where
-  pub unrefused : refusal image ≡ none
-  pub elements : n ≡ countN image
-  pub bytes : b ≡ countB image
-
-pub passing : (image : List ℕ) (n b : ℕ) → passed n b ≡ answer image → Passing image n b
-unfolding answer
-passing image n b h = go (refusal image) refl h
-  where
-    go : (o : Option Refusal) → refusal image ≡ o → passed n b ≡ answered (countN image) (countB image) o → Passing image n b
-    go none q e = record { unrefused = q; elements = cc; bytes = cc }
-    go (some r) q e = let z : _≡_ {A = ℕ} 0 1 = cc in absurd (omega arith)

@@ -4,16 +4,20 @@ use mathlib.Core.Bool.{cond}
 use mathlib.Core.Option.{none}
 use mathlib.Core.List.{List, [], _∷_}
 use Prim.Native.Nat.{ℕ, zero, suc, _+_, _*_, _-_, _<_, _≤_}
-use native.Mathlib.Omega.{arith}
 use lib.Dec.{ltb}
 use lib.ListN.{length, getD, take, drop}
-use Rattle.tree.specs.Tree.{Part, countN}
-use Rattle.tree.specs.Image.{kindIn, placeIn}
-use Rattle.tree.specs.Ends.{endIn}
+use Rattle.tree.specs.Tree.{Part, countN, Element, elementsOf}
+use Rattle.tree.specs.Image.{kindIn, placeIn, levelIn}
 use Rattle.tree.specs.Refusal.{refusal}
-use Rattle.tree.specs.Answer.{said, answer, Passing, passing}
-use Rattle.tree.specs.declared.Tested.{Tested}
-use Rattle.tree.specs.declared.Tested.the-variants.{Accepted}
+
+-- how many elements at the start of a run are deeper than level l
+unfoldable pub deeper : ℕ → List Element → ℕ
+deeper l [] = 0
+deeper l (e ∷ es) = cond (ltb l (e .level)) (suc (deeper l es)) 0
+
+-- where the subtree of element i ends: the next element that is no deeper, or else N
+unfoldable pub endIn : List ℕ → ℕ → ℕ
+endIn image i = i + 1 + deeper (levelIn image i) (drop (i + 1) (elementsOf image))
 
 -- the kind of element i
 unfoldable pub kindAt : List ℕ → ℕ → ℕ
@@ -52,12 +56,6 @@ pub record Indexed (image index : List ℕ) : Type 0 where
 pub record Indexable (image table : List ℕ) : Type 0 where
   pub passed : refusal image ≡ none
   pub room : indexSize image ≤ length table
-
--- what a caller knows of an image that the tests let pass
-pub indexable : {image table : List ℕ} {r : Tested} {n b : ℕ} → said r ≡ answer image → r ≡ Accepted n b → n * 3 + 3 ≤ length table → Indexable image table
-indexable {image} {table} {r} {n} {b} e h k =
-    let p : Passing image n b = passing image n b (rw h at e) in
-    record { passed = p .unrefused; room = omega (arith, p .elements) }
 
 -- A table after the index was written into it: what stands behind the index is as before.
 pub record Filled (image before after : List ℕ) : Type 0 where

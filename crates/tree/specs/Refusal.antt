@@ -8,6 +8,8 @@ use lib.ListN.{length}
 use Rattle.text.specs.Basic.{ascii, within, sum, startsWith, orElse}
 use Rattle.text.specs.Text.{valid, endsWith}
 use Rattle.tree.specs.Tree.{Element, countN, countB, elementsOf}
+use Rattle.tree.specs.declared.refuse.Test.{Test}
+use Rattle.tree.specs.declared.refuse.Test.the-variants.{UnknownKind, NodeWithText, NotUtf8, StringBlock, Misformed}
 
 -- 1: 'The image is too short to read N or B, or its length is not 8 + 8N + B'
 unfoldable pub wrongLength : List ℕ → Bool
@@ -129,3 +131,11 @@ firstOf (t ∷ ts) = orElse t (firstOf ts)
 -- why an image is turned away before it is printed
 unfoldable pub refusal : List ℕ → Option Refusal
 refusal image = firstOf (tests image)
+
+-- what a test of one element looks for
+abbrev pub testOf : Test → Element → Bool
+testOf UnknownKind = unknownKind
+testOf NodeWithText = nodeWithText
+testOf NotUtf8 = notUtf8
+testOf StringBlock = stringBlock
+testOf Misformed = misformed

@@ -8,8 +8,7 @@ ghost use mathlib.Core.Path.{_≡_};
 ghost use Prim.Native.Nat.{_+_, _*_, _<_};
 ghost use lib.ListN.{length, set};
 ghost use Rattle.tree.specs.Tree.{countN};
-ghost use Rattle.tree.specs.Ends.{endIn};
-ghost use Rattle.tree.specs.Index.{IndexedFrom, Indexable, Filled};
+ghost use Rattle.tree.specs.Index.{IndexedFrom, Indexable, Filled, endIn};
 
 // Writes the entry of element i.
 fn put_entry(table: &mut [u32], i: u32, kind: u32, end: u32, start: u32)

@@ -14,9 +14,8 @@ ghost use Rattle.text.specs.Text.{endsWith};
 ghost use Rattle.tree.specs.Tree;
 ghost use Rattle.tree.specs.Tree.{countN, elementsOf};
 ghost use Rattle.tree.specs.Image.{kindIn, levelIn, startIn, elementIn};
-ghost use Rattle.tree.specs.Refusal.{wrongLength, outOfLimits, firstWhere, unknownKind, misplaced, firstMisplaced, nodeWithText, wrongSizes, notUtf8, stringBlock, misformed, noIdent, firstNameless};
+ghost use Rattle.tree.specs.Refusal.{wrongLength, outOfLimits, firstWhere, unknownKind, misplaced, firstMisplaced, nodeWithText, wrongSizes, notUtf8, stringBlock, misformed, noIdent, firstNameless, testOf};
 ghost use Rattle.tree.specs.Answer.{found};
-ghost use Rattle.tree.specs.Search.{testOf};
 
 const MAX_ELEMENTS: u32 = 4096;
 

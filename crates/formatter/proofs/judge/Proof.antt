@@ -1,6 +1,7 @@
 use mathlib.Core.Path.{refl, sym, ap, _∙_}
 use borrow.Author.Needs.{needs}
-use Rattle.tree.specs.Answer.{said, passing}
+use Rattle.tree.specs.Answer.{said}
+use Rattle.tree.proofs.Accepted.{passing}
 use Rattle.formatter.proofs.Calls.{turned-away}
 use Rattle.formatter.proofs.judge.Statement.{statement}
 use Rattle.formatter.proofs.judge.Tie as tie

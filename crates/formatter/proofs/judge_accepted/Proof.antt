@@ -1,6 +1,6 @@
 use native.Mathlib.Omega.{arith}
 use borrow.Author.Needs.{needs}
-use Rattle.tree.specs.Accepted.{accepted}
+use Rattle.tree.proofs.Accepted.{accepted}
 use Rattle.formatter.proofs.Calls.{fits, stops, never-full}
 use Rattle.formatter.proofs.judge_accepted.Statement.{statement}
 use Rattle.formatter.proofs.judge_accepted.Tie as tie

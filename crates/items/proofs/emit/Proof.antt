@@ -1,5 +1,5 @@
 use borrow.Author.Needs.{needs}
-use Rattle.items.specs.Laws.{fills}
+use Rattle.items.proofs.Laws.{fills}
 use Rattle.items.proofs.Emits.{ended, emit-ended, emit-full, emit-done}
 use Rattle.items.proofs.Numbers.{nowhere-full, in-range, goes-on}
 use Rattle.items.proofs.emit.Statement.{statement}

@@ -1,8 +1,8 @@
 use native.Mathlib.Omega.{arith}
 use Prim.Native.Nat.{_<_, _^_}
 use borrow.Author.Needs.{needs}
-use Rattle.items.specs.Decimals.{decimal-short}
-use Rattle.items.specs.Lengths.{described-small}
+use Rattle.items.proofs.Decimals.{decimal-short}
+use Rattle.items.proofs.Lengths.{described-small}
 use Rattle.items.proofs.Numbers.{largest, brought-full, counts-are, counts-full, room-line}
 use Rattle.items.proofs.fitting.Statement.{statement}
 use Rattle.items.proofs.fitting.Tie as tie

@@ -1,5 +1,5 @@
 use borrow.Author.Needs.{needs}
-use Rattle.items.specs.Laws.{passed}
+use Rattle.items.proofs.Laws.{passed}
 use Rattle.items.proofs.Emits.{ended, said-text}
 use Rattle.items.proofs.print_text.Statement.{statement}
 use Rattle.items.proofs.print_text.Tie as tie

@@ -1,5 +1,5 @@
 use borrow.Author.Needs.{needs}
-use Rattle.items.specs.Laws.{passed}
+use Rattle.items.proofs.Laws.{passed}
 use Rattle.items.proofs.Emits.{ended, stopping}
 use Rattle.items.proofs.stop_at.Statement.{statement}
 use Rattle.items.proofs.stop_at.Tie as tie

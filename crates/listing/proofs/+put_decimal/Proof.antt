@@ -5,7 +5,7 @@ use borrow.Author.Needs.{needs}
 use borrow.Fn.Kinds.{In}
 use borrow.Fn.PlainCycle.{Measures, is, falls, and}
 use Rattle.listing.specs.Writes.{by, _▸_, kept, room-first, _⟫_, room-as}
-use Rattle.items.specs.Decimals.{one-digit, last-digit}
+use Rattle.items.proofs.Decimals.{one-digit, last-digit}
 use Rattle.listing.proofs.put_decimal.Reads as put-decimal
 use Rattle.listing.proofs.put_decimal.Kinds as put-decimal-kinds
 use Rattle.listing.proofs.+put_decimal.Lts-put_decimal as lts

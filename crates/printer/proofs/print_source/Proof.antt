@@ -1,6 +1,6 @@
 use borrow.Author.Needs.{needs}
 use mathlib.Core.Path.{refl, ap}
-use Rattle.items.specs.Laws.{by}
+use Rattle.items.proofs.Laws.{by}
 use Rattle.tree.specs.Answer.{found}
 use Rattle.printer.proofs.Looking.{first-has, none-has, ends-has}
 use Rattle.printer.proofs.Sources.{root-at, source-before, source-behind, source-whole, before-region, after-region}

@@ -1,6 +1,6 @@
 use borrow.Author.Needs.{needs}
 use native.Mathlib.Omega.{arith}
-use Rattle.items.specs.Laws.{_▸_}
+use Rattle.items.proofs.Laws.{_▸_}
 use Rattle.printer.specs.Rows.{words, wordOrNone}
 use Rattle.printer.proofs.print_whole.Statement.{statement}
 use Rattle.printer.proofs.print_whole.Tie as tie

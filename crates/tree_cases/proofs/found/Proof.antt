@@ -3,7 +3,7 @@ use Prim.Native.Nat.{_+_}
 use native.Mathlib.Omega.{arith}
 use borrow.Author.Needs.{needs}
 use Rattle.tree.specs.Index.{Region}
-use Rattle.tree.specs.Children.{region-of}
+use Rattle.tree.proofs.Children.{region-of}
 use Rattle.tree_cases.proofs.found.Statement.{statement}
 use Rattle.tree_cases.proofs.found.Tie as tie
 

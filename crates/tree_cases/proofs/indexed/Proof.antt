@@ -1,8 +1,8 @@
 use mathlib.Core.Bool.{false≢true}
 use borrow.Author.Needs.{needs}
-use Rattle.tree.specs.Index.{indexable}
 use Rattle.tree_cases.proofs.indexed.Statement.{statement}
 use Rattle.tree_cases.proofs.indexed.Tie as tie
+use Rattle.tree.proofs.Children.{indexable}
 
 pub indexed-spec : {M : Type 1} → statement M
 indexed-spec =

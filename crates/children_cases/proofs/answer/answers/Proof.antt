@@ -1,7 +1,7 @@
 use mathlib.Core.Path.{refl}
 use native.Mathlib.Omega.{arith}
 use Rattle.tree.specs.Index.{Region}
-use Rattle.tree.specs.Children.{region-of}
+use Rattle.tree.proofs.Children.{region-of}
 use borrow.Author.Needs.{needs}
 use Rattle.children_cases.proofs.answer.answers.Statement.{statement}
 use Rattle.children_cases.proofs.answer.answers.Tie as tie

@@ -1,8 +1,8 @@
 use mathlib.Core.Bool.{false≢true}
-use Rattle.tree.specs.Index.{indexable}
 use borrow.Author.Needs.{needs}
 use Rattle.children_cases.proofs.answer.indexed.Statement.{statement}
 use Rattle.children_cases.proofs.answer.indexed.Tie as tie
+use Rattle.tree.proofs.Children.{indexable}
 
 pub indexed-spec : {M : Type 1} → statement M
 indexed-spec =

@@ -4,7 +4,7 @@ use native.Mathlib.Omega.{arith}
 use borrow.Author.Needs.{needs}
 use lib.ListN.{length}
 use Rattle.items.specs.Lines.{decimal}
-use Rattle.items.specs.Decimals.{four-shorter, decimal-short}
+use Rattle.items.proofs.Decimals.{four-shorter, decimal-short}
 use Rattle.items.proofs.lines.decimal_length.Statement.{statement}
 use Rattle.items.proofs.lines.decimal_length.Tie as tie
 

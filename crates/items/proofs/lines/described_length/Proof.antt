@@ -1,7 +1,7 @@
 use mathlib.Core.Path.{sym, _∙_}
 use native.Mathlib.Omega.{arith}
 use borrow.Author.Needs.{needs}
-use Rattle.items.specs.Lengths.{field-short, text-length, lines-length, number-length, bare-length}
+use Rattle.items.proofs.Lengths.{field-short, text-length, lines-length, number-length, bare-length}
 use Rattle.items.proofs.lines.described_length.Statement.{statement}
 use Rattle.items.proofs.lines.described_length.Tie as tie
 

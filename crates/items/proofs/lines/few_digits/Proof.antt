@@ -1,5 +1,5 @@
 use mathlib.Core.Path.{sym}
-use Rattle.items.specs.Decimals.{one-long, two-long, three-long, four-long}
+use Rattle.items.proofs.Decimals.{one-long, two-long, three-long, four-long}
 use Rattle.items.proofs.lines.few_digits.Statement.{statement}
 use Rattle.items.proofs.lines.few_digits.Tie as tie
 

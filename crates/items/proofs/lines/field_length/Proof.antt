@@ -4,9 +4,9 @@ use lib.ListN.{length-append}
 use mathlib.Core.List.{_∷_}
 use Rattle.text.specs.Basic.{ascii}
 use Rattle.items.specs.Lines.{decimal}
-use Rattle.items.specs.Decimals.{decimal-short}
+use Rattle.items.proofs.Decimals.{decimal-short}
 use Rattle.items.specs.Names.{nameAt}
-use Rattle.items.specs.Lengths.{name-short}
+use Rattle.items.proofs.Lengths.{name-short}
 use Rattle.items.proofs.lines.field_length.Statement.{statement}
 use Rattle.items.proofs.lines.field_length.Tie as tie
 

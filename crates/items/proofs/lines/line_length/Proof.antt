@@ -1,7 +1,7 @@
 use native.Mathlib.Omega.{arith}
 use borrow.Author.Needs.{needs}
-use Rattle.items.specs.Decimals.{decimal-short}
-use Rattle.items.specs.Lengths.{described-small}
+use Rattle.items.proofs.Decimals.{decimal-short}
+use Rattle.items.proofs.Lengths.{described-small}
 use Rattle.items.proofs.lines.line_length.Statement.{statement}
 use Rattle.items.proofs.lines.line_length.Tie as tie
 

@@ -1,6 +1,6 @@
 use native.Mathlib.Omega.{arith}
 use borrow.Author.Needs.{needs}
-use Rattle.items.specs.Lengths.{start-le, name-length, nameless}
+use Rattle.items.proofs.Lengths.{start-le, name-length, nameless}
 use Rattle.items.proofs.lines.name_length.Statement.{statement}
 use Rattle.items.proofs.lines.name_length.Tie as tie
 

@@ -1,5 +1,5 @@
 use borrow.Author.Needs.{needs}
-use Rattle.items.specs.Laws.{_▸_}
+use Rattle.items.proofs.Laws.{_▸_}
 use Rattle.printer.specs.Lists.{closeArguments}
 use Rattle.printer.proofs.lists.close_arguments.Statement.{statement}
 use Rattle.printer.proofs.lists.close_arguments.Tie as tie

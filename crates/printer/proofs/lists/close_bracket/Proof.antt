@@ -1,5 +1,5 @@
 use borrow.Author.Needs.{needs}
-use Rattle.items.specs.Laws.{_▸_}
+use Rattle.items.proofs.Laws.{_▸_}
 use Rattle.printer.specs.Lists.{closeBracket}
 use Rattle.printer.proofs.Chosen.{mark-as}
 use Rattle.printer.proofs.lists.close_bracket.Statement.{statement}

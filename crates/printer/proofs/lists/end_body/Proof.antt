@@ -1,5 +1,5 @@
 use borrow.Author.Needs.{needs}
-use Rattle.items.specs.Laws.{_▸_}
+use Rattle.items.proofs.Laws.{_▸_}
 use Rattle.printer.specs.Lists.{endBody}
 use Rattle.printer.proofs.lists.end_body.Statement.{statement}
 use Rattle.printer.proofs.lists.end_body.Tie as tie

@@ -1,5 +1,5 @@
 use borrow.Author.Needs.{needs}
-use Rattle.items.specs.Laws.{idle}
+use Rattle.items.proofs.Laws.{idle}
 use Rattle.printer.specs.Rows.{words}
 use Rattle.printer.specs.Lists.{onLine}
 use Rattle.printer.proofs.Chosen.{on-line-of}

@@ -1,5 +1,5 @@
 use borrow.Author.Needs.{needs}
-use Rattle.items.specs.Laws.{_▸_}
+use Rattle.items.proofs.Laws.{_▸_}
 use Rattle.printer.specs.Lists.{repeatBody}
 use Rattle.printer.proofs.lists.repeat_body.Statement.{statement}
 use Rattle.printer.proofs.lists.repeat_body.Tie as tie

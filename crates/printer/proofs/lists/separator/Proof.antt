@@ -1,5 +1,5 @@
 use borrow.Author.Needs.{needs}
-use Rattle.items.specs.Laws.{_▸_}
+use Rattle.items.proofs.Laws.{_▸_}
 use Rattle.printer.proofs.lists.separator.Statement.{statement}
 use Rattle.printer.proofs.lists.separator.Tie as tie
 

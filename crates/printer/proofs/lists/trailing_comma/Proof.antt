@@ -1,5 +1,5 @@
 use borrow.Author.Needs.{needs}
-use Rattle.items.specs.Laws.{_▸_}
+use Rattle.items.proofs.Laws.{_▸_}
 use Rattle.printer.specs.Rows.{words}
 use Rattle.printer.proofs.lists.trailing_comma.Statement.{statement}
 use Rattle.printer.proofs.lists.trailing_comma.Tie as tie

@@ -1,6 +1,6 @@
 use borrow.Author.Needs.{needs}
 use borrow.Author.Tests.{not-true, not-false}
-use Rattle.items.specs.Laws.{_▸_}
+use Rattle.items.proofs.Laws.{_▸_}
 use Rattle.printer.specs.Rows.{words}
 use Rattle.printer.proofs.Chosen.{when-yes, when-no}
 use Rattle.printer.proofs.pieces.print_end.Statement.{statement}

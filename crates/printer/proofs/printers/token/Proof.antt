@@ -3,7 +3,7 @@ use mathlib.Core.List.{List}
 use Prim.Native.Nat.{ℕ}
 use borrow.Author.Needs.{needs}
 use Rattle.items.specs.Item.{text, say}
-use Rattle.items.specs.Laws.{by}
+use Rattle.items.proofs.Laws.{by}
 use Rattle.printer.proofs.printers.token.Statement.{statement}
 use Rattle.printer.proofs.printers.token.Tie as tie
 

@@ -1,5 +1,5 @@
 use borrow.Author.Needs.{needs}
-use Rattle.items.specs.Laws.{by, idle}
+use Rattle.items.proofs.Laws.{by, idle}
 use Rattle.printer.proofs.Tables.{word-none, word-some}
 use Rattle.printer.proofs.words.print_optional.Statement.{statement}
 use Rattle.printer.proofs.words.print_optional.Tie as tie

@@ -1,9 +1,9 @@
 use borrow.Author.Needs.{needs}
 use Rattle.tree.specs.Tree.{le32}
-use Rattle.tree.specs.Image.{le32-drop}
 use Rattle.tree.proofs.Numbers.{number-as}
 use Rattle.tree.proofs.bytes.number_at.Statement.{statement}
 use Rattle.tree.proofs.bytes.number_at.Tie as tie
+use Rattle.tree.proofs.Elements.{le32-drop}
 
 pub number-at-spec : {M : Type 1} → statement M
 number-at-spec =

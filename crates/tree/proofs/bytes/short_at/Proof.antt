@@ -1,9 +1,9 @@
 use borrow.Author.Needs.{needs}
 use Rattle.tree.specs.Tree.{le16}
-use Rattle.tree.specs.Image.{le16-drop}
 use Rattle.tree.proofs.Numbers.{number-as}
 use Rattle.tree.proofs.bytes.short_at.Statement.{statement}
 use Rattle.tree.proofs.bytes.short_at.Tie as tie
+use Rattle.tree.proofs.Elements.{le16-drop}
 
 pub short-at-spec : {M : Type 1} → statement M
 short-at-spec =

@@ -1,7 +1,7 @@
 use mathlib.Core.Path.{refl}
 use native.Mathlib.Omega.{arith}
 use borrow.Author.Needs.{needs}
-use Rattle.tree.specs.Accepted.{accepted}
+use Rattle.tree.proofs.Accepted.{accepted}
 use Rattle.tree.proofs.Filling.{Filling, filling-none, filling-start, filling-behind, filling-more, filling-all}
 use Rattle.tree.proofs.index.index.Statement.{statement}
 use Rattle.tree.proofs.index.index.Tie as tie

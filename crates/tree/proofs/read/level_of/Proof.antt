@@ -1,8 +1,8 @@
 use mathlib.Core.Path.{_∙_}
 use borrow.Author.Needs.{needs}
-use Rattle.tree.specs.Image.{level-in}
 use Rattle.tree.proofs.read.level_of.Statement.{statement}
 use Rattle.tree.proofs.read.level_of.Tie as tie
+use Rattle.tree.proofs.Elements.{level-in}
 
 pub level-of-spec : {M : Type 1} → statement M
 level-of-spec =

@@ -1,8 +1,8 @@
 use mathlib.Core.Path.{_∙_}
 use borrow.Author.Needs.{needs}
-use Rattle.tree.specs.Image.{size-in}
 use Rattle.tree.proofs.read.size_of.Statement.{statement}
 use Rattle.tree.proofs.read.size_of.Tie as tie
+use Rattle.tree.proofs.Elements.{size-in}
 
 pub size-of-spec : {M : Type 1} → statement M
 size-of-spec =

@@ -1,7 +1,7 @@
 use Prim.Native.Nat.{_-_, _≤_}
 use native.Mathlib.Omega.{arith}
 use borrow.Author.Needs.{needs}
-use Rattle.tree.specs.Search.{misplacedFrom, misplaced-search}
+use Rattle.tree.proofs.FirstWhere.{misplacedFrom, misplaced-search}
 use Rattle.tree.specs.Tree.{elementsOf}
 use Rattle.tree.specs.Refusal.{firstMisplaced}
 use Rattle.tree.proofs.Search.{Walking, search-more, search-hit, search-all, misplaced-empty, misplaced-first, misplaced-later}

@@ -3,7 +3,7 @@ use Prim.Native.Nat.{_-_}
 use native.Mathlib.Omega.{arith}
 use lib.ListN.{drop}
 use borrow.Author.Needs.{needs}
-use Rattle.tree.specs.Search.{nameless-search}
+use Rattle.tree.proofs.FirstWhere.{nameless-search}
 use Rattle.tree.specs.Tree.{elementsOf}
 use Rattle.tree.specs.Refusal.{firstNameless}
 use Rattle.tree.proofs.Search.{Walking, search-more, search-hit, search-all}

@@ -3,8 +3,8 @@ use Prim.Native.Nat.{_-_}
 use lib.ListN.{drop}
 use borrow.Author.Needs.{needs}
 use Rattle.tree.specs.Tree.{elementsOf}
-use Rattle.tree.specs.Refusal.{firstWhere}
-use Rattle.tree.specs.Search.{testOf, where-search}
+use Rattle.tree.specs.Refusal.{firstWhere, testOf}
+use Rattle.tree.proofs.FirstWhere.{where-search}
 use Rattle.tree.proofs.Search.{Walking, search-more, search-hit, search-all}
 use Rattle.tree.proofs.Sums.{Summing, summing-none, summing-more}
 use Rattle.tree.proofs.refuse.first_where.Statement.{statement}

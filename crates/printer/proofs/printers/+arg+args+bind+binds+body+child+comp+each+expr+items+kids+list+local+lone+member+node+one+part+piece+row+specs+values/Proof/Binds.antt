@@ -2,7 +2,7 @@ use Prim.Native.Nat.{ℕ}
 use borrow.Author.Needs.{needs}
 use mathlib.Core.Path.{ap, _∙_}
 use native.Mathlib.Omega.{arith}
-use Rattle.items.specs.Laws.{by}
+use Rattle.items.proofs.Laws.{by}
 use Rattle.printer.specs.Print.{localOf}
 use Rattle.printer.specs.Reads.{within}
 use Rattle.printer.proofs.Walking.{survey-outlined, survey-foreign, outlined-whole, outlined-count}

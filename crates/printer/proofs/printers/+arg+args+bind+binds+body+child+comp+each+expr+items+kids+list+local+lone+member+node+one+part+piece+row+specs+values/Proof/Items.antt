@@ -1,7 +1,7 @@
 use Prim.Native.Nat.{ℕ}
 use borrow.Author.Needs.{needs}
 use native.Mathlib.Omega.{arith}
-use Rattle.items.specs.Laws.{by}
+use Rattle.items.proofs.Laws.{by}
 use Rattle.printer.specs.Reads.{walks-first, items-walk}
 use Rattle.printer.proofs.Walking.{spans-as}
 use Rattle.printer.proofs.printers.items.Reads as items

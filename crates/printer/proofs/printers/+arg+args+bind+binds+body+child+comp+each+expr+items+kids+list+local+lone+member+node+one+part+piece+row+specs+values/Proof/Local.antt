@@ -1,6 +1,6 @@
 use Prim.Native.Nat.{ℕ}
 use borrow.Author.Needs.{needs}
-use Rattle.items.specs.Laws.{_▸_}
+use Rattle.items.proofs.Laws.{_▸_}
 use Rattle.printer.specs.Rows.{words}
 use Rattle.printer.proofs.printers.local.Reads as local
 use Rattle.printer.proofs.printers.+arg+args+bind+binds+body+child+comp+each+expr+items+kids+list+local+lone+member+node+one+part+piece+row+specs+values.Lts-local as lts

@@ -1,7 +1,7 @@
 use Prim.Native.Nat.{ℕ}
 use borrow.Author.Needs.{needs}
 use native.Mathlib.Omega.{arith}
-use Rattle.items.specs.Laws.{_▸_, by}
+use Rattle.items.proofs.Laws.{_▸_, by}
 use Rattle.printer.specs.Rows.{words}
 use Rattle.printer.specs.Under.{kid-at, kid-print}
 use Rattle.printer.specs.Reads.{walks-first, walks-kid}

@@ -1,7 +1,7 @@
 use Prim.Native.Nat.{ℕ}
 use borrow.Author.Needs.{needs}
 use native.Mathlib.Omega.{arith}
-use Rattle.items.specs.Laws.{by}
+use Rattle.items.proofs.Laws.{by}
 use Rattle.printer.proofs.Nodes.{rowed-rest, rowed-arg, rowed-small, node-token, node-own, node-row}
 use Rattle.printer.specs.Print.{element}
 use Rattle.printer.proofs.printers.node.Reads as node

@@ -1,7 +1,7 @@
 use Prim.Native.Nat.{ℕ}
 use borrow.Author.Needs.{needs}
 use Rattle.printer.proofs.Rowing.{class-tested, kid-falls, each-other, each-one}
-use Rattle.items.specs.Laws.{by, idle}
+use Rattle.items.proofs.Laws.{by, idle}
 use borrow.Author.Tests.{not-true, not-false}
 use native.Mathlib.Omega.{arith}
 use Rattle.printer.specs.Under.{kid-at}

@@ -1,7 +1,7 @@
 use Prim.Native.Nat.{ℕ}
 use borrow.Author.Needs.{needs}
 use Rattle.printer.proofs.Rowing.{found-kid, kid-falls, number-found, number-none}
-use Rattle.items.specs.Laws.{by}
+use Rattle.items.proofs.Laws.{by}
 use mathlib.Core.Path.{ap}
 use native.Mathlib.Omega.{arith}
 use Rattle.tree.specs.Answer.{found}

@@ -1,7 +1,7 @@
 use Prim.Native.Nat.{ℕ}
 use borrow.Author.Needs.{needs}
 use Rattle.printer.proofs.Rowing.{piece-unasked, piece-asked, piece-each, piece-part}
-use Rattle.items.specs.Laws.{by, idle}
+use Rattle.items.proofs.Laws.{by, idle}
 use mathlib.Core.Path.{sym, ap, _∙_}
 use native.Mathlib.Omega.{arith}
 use Rattle.printer.specs.Reads.{numberOr}

@@ -4,7 +4,7 @@ use Rattle.printer.proofs.Walking.{survey-outlined, survey-foreign, wal
 use Rattle.printer.proofs.Rowing.{kid-falls}
 use native.Mathlib.Omega.{arith}
 use Rattle.items.specs.Machine.{held}
-use Rattle.items.specs.Laws.{by}
+use Rattle.items.proofs.Laws.{by}
 use Rattle.printer.specs.Under.{kid-at}
 use Rattle.printer.specs.Reads.{walks-kid}
 use Rattle.printer.proofs.printers.values.Reads as values

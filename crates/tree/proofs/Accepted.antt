@@ -10,8 +10,10 @@ use lib.ListN.{length}
 use borrow.Author.Tests.{eqb-true, eqb-false, ltb-false, not-false}
 use Rattle.text.specs.Basic.{sum}
 use Rattle.tree.specs.Tree.{countN, countB, elementsOf}
-use Rattle.tree.specs.Image.{startIn, sizes-all}
+use Rattle.tree.specs.Image.{startIn}
 use Rattle.tree.specs.Refusal.{Refusal, refusedAt, refusedIf, tests, firstOf, refusal, wrongLength, outOfLimits, firstWhere, unknownKind, firstMisplaced, nodeWithText, orSum, wrongSizes, notUtf8, stringBlock, misformed, firstNameless}
+use Rattle.tree.specs.Answer.{answered, answer, passed}
+use Rattle.tree.proofs.Elements.{sizes-all}
 
 -- The image's numbers are in their limits, and no test finds an element.
 pub record Accepted (image : List ℕ) : Type 0 where
@@ -85,3 +87,17 @@ accepted image h =
       comments = at-none 8 _ t₈;
       names = at-none 9 _ t₉;
     }
+
+-- What follows from an answer that an image passed.
+pub record Passing (image : List ℕ) (n b : ℕ) : Type 0 where
+  pub unrefused : refusal image ≡ none
+  pub elements : n ≡ countN image
+  pub bytes : b ≡ countB image
+
+pub passing : (image : List ℕ) (n b : ℕ) → passed n b ≡ answer image → Passing image n b
+unfolding answer
+passing image n b h = go (refusal image) refl h
+  where
+    go : (o : Option Refusal) → refusal image ≡ o → passed n b ≡ answered (countN image) (countB image) o → Passing image n b
+    go none q e = record { unrefused = q; elements = cc; bytes = cc }
+    go (some r) q e = let z : _≡_ {A = ℕ} 0 1 = cc in absurd (omega arith)

@@ -3,22 +3,26 @@ use mathlib.Core.Path.{_≡_, refl, _∙_, sym}
 use mathlib.Core.Bool.{Bool, true, false, cond, _&&_}
 use mathlib.Core.Option.{Option, none, some}
 use mathlib.Core.List.{List, [], _∷_, _++_}
-use Prim.Native.Nat.{ℕ, zero, suc, _+_, _-_, _≤_, _<_}
+use Prim.Native.Nat.{ℕ, zero, suc, _+_, _-_, _≤_, _<_, _*_}
 use native.Mathlib.Omega.{arith}
 use native.Mathlib.Decide.{decLt}
 use lib.Dec.{eqb}
-use lib.ListN.{take, drop}
+use lib.ListN.{take, drop, length}
 use lib.Seq.{drop-drop, take-add}
 use borrow.Author.Tests.{lt-ltb, le-ltb, eqb-true}
 use Rattle.tree.specs.Tree.{countN, textsOf, elementsOf, Part, nil, tree, forest, treeOf, texts, parts}
-use Rattle.tree.specs.Image.{kindIn, levelIn, sizeIn, startIn, placeIn, textIn, elementIn, elements-cons, elements-none, start-next}
+use Rattle.tree.specs.Image.{kindIn, levelIn, sizeIn, startIn, placeIn, textIn, elementIn}
 use Rattle.tree.specs.Refusal.{misplacedAfter, firstMisplaced}
-use Rattle.tree.specs.Search.{misplacedFrom, misplaced-search, still-none, split-none}
-use Rattle.tree.specs.Accepted.{Accepted, accepted}
-use Rattle.tree.specs.Ends.{endIn, deeperFrom, deeper-here, deeper-not, deeper-over, end-past, end-in, end-deep, end-up, end-under}
-use Rattle.tree.specs.Index.{kindAt, endAt, startAt, Indexed, Table, Region, textAt, partAt, walk, partsFrom}
-use Rattle.tree.specs.Walk.{forest-none, forest-end, forest-here, forest-skip, Placed, well-placed, joined, texts-under}
+use Rattle.tree.proofs.FirstWhere.{misplacedFrom, misplaced-search, still-none, split-none}
+use Rattle.tree.proofs.Accepted.{Accepted, accepted, Passing, passing}
+use Rattle.tree.proofs.Ends.{deeperFrom, deeper-here, deeper-not, deeper-over, end-past, end-in, end-deep, end-up, end-under}
+use Rattle.tree.specs.Index.{kindAt, endAt, startAt, Indexed, Table, Region, textAt, partAt, walk, partsFrom, endIn, Indexable}
+use Rattle.tree.proofs.Walk.{forest-none, forest-end, forest-here, forest-skip, Placed, well-placed, joined, texts-under}
 use Rattle.text.proofs.Lists.{and-true}
+use Rattle.tree.specs.Answer.{said, answer}
+use Rattle.tree.specs.declared.Tested.{Tested}
+use Rattle.tree.specs.declared.Tested.the-variants.{Accepted as Passed}
+use Rattle.tree.proofs.Elements.{elements-cons, elements-none, start-next}
 
 -- ---- texts are parts of the text section
 
@@ -269,3 +273,9 @@ module _ {image index : List ℕ} (x : Indexed image index) where
   -- all of them, in the terms of the code: a and b are where the children begin and end
   pub region-of : {a b : ℕ} (i : ℕ) → i < countN image → a ≡ i + 1 → b ≡ endAt index i → Region index image a b
   region-of i h q r = rw (q, r) (region-under i (i + 1) (child-first indexed-accepted i h))
+
+-- what a caller knows of an image that the tests let pass
+pub indexable : {image table : List ℕ} {r : Tested} {n b : ℕ} → said r ≡ answer image → r ≡ Passed n b → n * 3 + 3 ≤ length table → Indexable image table
+indexable {image} {table} {r} {n} {b} e h k =
+    let p : Passing image n b = passing image n b (rw h at e) in
+    record { passed = p .unrefused; room = omega (arith, p .elements) }

@@ -8,18 +8,9 @@ use native.Mathlib.Omega.{arith}
 use lib.Dec.{eqb}
 use lib.ListN.{drop}
 use Rattle.tree.specs.Tree.{Element, countN, elementsOf}
-use Rattle.tree.specs.Image.{kindIn, levelIn, elementIn, elements-cons, elements-none}
-use Rattle.tree.specs.Refusal.{firstWhere, unknownKind, misplaced, misplacedAfter, nodeWithText, notUtf8, stringBlock, misformed, noIdent, firstNameless}
-use Rattle.tree.specs.declared.refuse.Test.{Test}
-use Rattle.tree.specs.declared.refuse.Test.the-variants.{UnknownKind, NodeWithText, NotUtf8, StringBlock, Misformed}
-
--- what a test of one element looks for
-abbrev pub testOf : Test → Element → Bool
-testOf UnknownKind = unknownKind
-testOf NodeWithText = nodeWithText
-testOf NotUtf8 = notUtf8
-testOf StringBlock = stringBlock
-testOf Misformed = misformed
+use Rattle.tree.specs.Image.{kindIn, levelIn, elementIn}
+use Rattle.tree.specs.Refusal.{firstWhere, misplaced, misplacedAfter, noIdent, firstNameless}
+use Rattle.tree.proofs.Elements.{elements-cons, elements-none}
 
 -- A search: it gives the first element whose test T holds.
 pub record Search (image : List ℕ) (G : ℕ → Option ℕ) (T : ℕ → Bool) : Type 0 where

@@ -8,7 +8,7 @@ use Rattle.numbers.specs.declared.Element.{Element}
 use Rattle.items.specs.declared.Printed.{Printed}
 use Rattle.items.specs.declared.Printed.the-variants.{Done, Stopped, Full}
 use Rattle.items.specs.Item.{Item, Out, stop, ok, Print, after, next, _⨟_, none, say, says, numbered}
-use Rattle.items.specs.Machine.{State, Outcome, halted, full, reached, emit1, emitAll, onward, halting, reaching, finish, run, seen, Held, held, Prints, nextRun}
+use Rattle.items.specs.Machine.{State, Outcome, halted, full, reached, emit1, emitAll, onward, halting, reaching, finish, run, seen, Held, held, Prints, nextRun, Says}
 
 all-append : (xs ys : List Item) (σ : State) → emitAll (xs ++ ys) σ ≡ onward (emitAll xs σ) (emitAll ys)
 unfolding emitAll
@@ -117,10 +117,6 @@ passed q (stops e) = record { ran = refl; sameRecords = refl; sameTexts = refl }
 passed q fills = record { ran = refl; sameRecords = refl; sameTexts = refl }
 
 -- ---- printers of lists of items
-
--- The contract of a printer of items that take no number: printing xs takes o to a.
-pub record Says (xs : List Item) (o a : Held) : Type 0 where
-  pub prints : Prints (says xs) o a
 
 -- one item
 pub said : (x : Item) {o a : Held} → Prints (say x) o a → Says (x ∷ []) o a

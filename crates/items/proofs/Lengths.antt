@@ -15,10 +15,10 @@ use Rattle.items.specs.declared.Signal.{Signal}
 use Rattle.items.specs.declared.Signal.the-variants.{NewLine, SpaceOrNewLine, Tab, StartIndent, FinishIndent, StartGroup, FinishGroup, StartBlock, FinishBlock, Else, EndIf}
 use Rattle.items.specs.Item.{always, lines, Item, signal, text, newline, spaceOrNewline, tab, indent, outdent, mark, group, groupEnd, block, blockEnd, run, runEnd, again, ifTest, elseItem, endIf}
 use Rattle.items.specs.Lines.{signalName, decimal, field, described, recordLine, recordLines}
-use Rattle.items.specs.Decimals.{decimal-short}
+use Rattle.items.proofs.Decimals.{decimal-short}
 use Rattle.items.specs.Names.{names, nameAt, joined, startOf, numbered, describedLength, lineLength}
 use Rattle.items.specs.Records.{signalKind, recordOf, bytesOf, bytes}
-use Rattle.items.specs.Fitting.{Short}
+use Rattle.items.proofs.Fits.{Short}
 
 -- ---- names, each rule by one computed test over the whole table
 

@@ -10,9 +10,9 @@ use lib.ListN.{drop}
 use borrow.Author.Tests.{lt-ltb, le-ltb, eq-eqb, ne-eqb, ltb-true, ltb-false, eqb-false}
 use Rattle.tree.specs.Tree.{Element, nil, tree, forest, texts}
 use Rattle.tree.specs.Refusal.{isToken, misplaced, misplacedAfter}
-use Rattle.tree.specs.Search.{split-none}
-use Rattle.tree.specs.Accepted.{or-false}
-use Rattle.tree.specs.Ends.{deeper}
+use Rattle.tree.proofs.FirstWhere.{split-none}
+use Rattle.tree.proofs.Accepted.{or-false}
+use Rattle.tree.specs.Index.{deeper}
 
 -- no element, no tree
 pub forest-none : (m : ℕ) → forest m [] ≡ nil

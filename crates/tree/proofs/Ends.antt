@@ -10,16 +10,9 @@ use lib.ListN.{length, drop, length-drop}
 use lib.Seq.{drop-drop}
 use borrow.Author.Tests.{lt-ltb, le-ltb, ltb-true}
 use Rattle.tree.specs.Tree.{Element, countN, elementsOf}
-use Rattle.tree.specs.Image.{levelIn, elements-cons, elements-none, elements-count}
-
--- how many elements at the start of a run are deeper than level l
-unfoldable pub deeper : ℕ → List Element → ℕ
-deeper l [] = 0
-deeper l (e ∷ es) = cond (ltb l (e .level)) (suc (deeper l es)) 0
-
--- where the subtree of element i ends: the next element that is no deeper, or else N
-unfoldable pub endIn : List ℕ → ℕ → ℕ
-endIn image i = i + 1 + deeper (levelIn image i) (drop (i + 1) (elementsOf image))
+use Rattle.tree.specs.Image.{levelIn}
+use Rattle.tree.specs.Index.{deeper, endIn}
+use Rattle.tree.proofs.Elements.{elements-cons, elements-none, elements-count}
 
 -- elements deeper than m come first among those deeper than l, where l is above m
 pub deeper-skip : (l m : ℕ) (es : List Element) → l ≤ m → deeper l es ≡ deeper m es + deeper l (drop (deeper m es) es)

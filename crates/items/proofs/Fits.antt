@@ -13,12 +13,12 @@ use borrow.Author.Tests.{lt-ltb}
 use Rattle.text.specs.Basic.{sum, all, All, ∅, _▹_}
 use Rattle.items.specs.declared.Printed.{Printed}
 use Rattle.items.specs.declared.Printed.the-variants.{Done}
-use Rattle.items.specs.Item.{always, lines, Item, signal, text, newline, spaceOrNewline, tab, indent, outdent, mark, group, groupEnd, block, blockEnd, runEnd, again, ifTest, elseItem, endIf, Out, stop, ok, Print, itemsOf}
-use Rattle.items.specs.Item.{run as opening}
+use Rattle.items.specs.Item.{always, lines, Item, signal, text, mark, runEnd, again, ifTest, Out, stop, ok, Print, run as opening}
 use Rattle.items.specs.Role.{role, isRun, isMark, runsOf, marksOf}
 use Rattle.items.specs.Lines.{recordLine, recordLines}
-use Rattle.items.specs.Records.{recordOf, bytesOf, words, bytes, Counts, countsOf, overlaid, words-length}
-use Rattle.items.specs.Machine.{State, store, counted, fit, printable, emitted, emitAll, onward, Outcome, halted, reached, halting, reaching, finish, run, seen, Held, held, outcome, Prints, noCounts, starting}
+use Rattle.items.specs.Records.{recordOf, bytesOf, words, bytes, Counts, countsOf, overlaid}
+use Rattle.items.specs.Machine.{State, store, counted, fit, printable, emitted, emitAll, onward, Outcome, halted, reached, halting, reaching, finish, run, seen, Held, held, outcome, Prints, noCounts}
+use Rattle.items.proofs.Decoding.{words-length}
 
 -- ---- stores
 
@@ -205,3 +205,12 @@ run-reached p rs ts σ k h = go (p 0) (sym (run-start p rs ts) ∙ h)
 pub from-start : {q : Print} {rs ts : List ℕ} {p : Printed} {a : Held} → p ≡ Done noCounts → Prints q (held rs ts p) a → outcome a ≡ run q (starting rs ts)
 unfolding seen
 from-start h k = rw h at (k .ran)
+
+-- before the first item
+abbrev pub starting : List ℕ → List ℕ → Outcome
+starting rs ts = reached (record { records = rs; texts = ts; count = noCounts }) 0
+
+-- the items that a printing gives, all of them or until it stops
+abbrev pub itemsOf : Out → List Item
+itemsOf (stop xs e) = xs
+itemsOf (ok xs k) = xs
