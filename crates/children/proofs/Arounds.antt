@@ -21,9 +21,11 @@ use Rattle.tree.specs.Index.{Region, kindAt, partAt, partsFrom, endAt}
 use Rattle.tree.proofs.Siblings.{region-part, region-past, region-next, parts-over}
 use Rattle.children.specs.declared.around.Notes.{Notes}
 use Rattle.children.specs.Reading.{upTo, behindPart, upToPart, between, foreignAt, withTrivia, strict, leading, triviaBefore, triviaAfter}
-use Rattle.children.specs.Stretch.{notes, note-kinds, Jumps, here, jumps-le, jumps-next, jumps-behind, Stretch}
-use Rattle.children.specs.Between.{Among, among, among-in, among-behind, among-upto, region-behind, region-upto, region-none, fromAt, toAt, Ends, Bounded, aroundAt, Beside, isKept, foreignIn, Led}
+use Rattle.children.specs.Stretch.{notes, Jumps, here, Stretch}
+use Rattle.children.specs.Between.{fromAt, toAt, Ends, Bounded, aroundAt, Beside, isKept, foreignIn, Led}
 use Rattle.children.proofs.Walks.{parts-more, all-more}
+use Rattle.children.proofs.Among.{Among, among, among-in, among-behind, among-upto, region-behind, region-upto, region-none}
+use Rattle.children.proofs.Stretch.{note-kinds, jumps-le, jumps-next, jumps-behind}
 
 -- ---- children_between
 

@@ -7,15 +7,17 @@ use native.Mathlib.Omega.{arith}
 use Rattle.tree.specs.declared.class.Kinds.{Kinds}
 use Rattle.tree.specs.Class.{is}
 use Rattle.tree.specs.Tree.{Part}
-use Rattle.children.specs.Gaps.{Go, Turn, turn, code, widen, gaps, widen-none, widen-both}
+use Rattle.children.specs.Gaps.{Go, Turn, turn, code, widen, gaps}
 use Rattle.tree.specs.Index.{Table, Region, partsFrom, partAt, endAt}
-use Rattle.children.specs.Stretch.{Jumps, here, waitingIn, jumps-next}
+use Rattle.children.specs.Stretch.{Jumps, here, waitingIn}
 use Rattle.children.specs.Spans.{Lies}
 use Rattle.children.specs.Lead.{leads, ledBy, addsError, led, Leads}
 use Rattle.tree.proofs.Siblings.{parts-next, parts-over}
 use Rattle.children.proofs.Spanning.{go-le, said, Says, Saying, waiting-none, waiting-follow}
 use Rattle.tree.specs.declared.class.Class.the-variants as Class
 use Rattle.children.specs.Gaps as G
+use Rattle.children.proofs.Stretch.{jumps-next}
+use Rattle.children.proofs.Widening.{widen-none, widen-both}
 
 -- The first gap so far.
 pub record Leading (index text : List ℕ) (w : Kinds) (loose : Bool) (from b j : ℕ) : Type 0 where

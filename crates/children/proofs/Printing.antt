@@ -15,9 +15,10 @@ use Rattle.tree.specs.Class.{kinds, oneOf, allOf}
 use Rattle.tree.specs.Index.{Region, kindAt, textAt, partAt, partsFrom, endAt}
 use Rattle.tree.proofs.Siblings.{region-part, region-past, region-next, parts-over}
 use Rattle.children.specs.declared.gap.Span.{Span}
-use Rattle.children.specs.Comments.{comments, comments-both}
+use Rattle.children.specs.Comments.{comments}
 use Rattle.children.specs.Stretch.{notes, inlineIn, waitingIn}
 use Rattle.children.specs.Spans.{gapAt}
+use Rattle.children.proofs.Comments.{comments-both}
 
 -- ---- one element
 

@@ -10,14 +10,16 @@ use Rattle.tree.specs.declared.class.Kinds.{Kinds}
 use Rattle.tree.specs.Class.{is, oneOf, kinds, allOf}
 use Rattle.tree.specs.Tree.{Part}
 use Rattle.children.specs.Reading.{isNote}
-use Rattle.children.specs.Gaps.{Go, Turn, turn, code, goCode, triviaTurn, otherTurn, breaks, widen, gaps, turned, startedBy, hadBy, followsBy, startedAfter, hadAfter, addsInline, addsWaiting, ending, widen-none, widen-both}
+use Rattle.children.specs.Gaps.{Go, Turn, turn, code, goCode, triviaTurn, otherTurn, breaks, widen, gaps, turned, startedBy, hadBy, followsBy, startedAfter, hadAfter, addsInline, addsWaiting, ending}
 use Rattle.tree.specs.Index.{Table, Region, partsFrom, partAt, endAt}
-use Rattle.children.specs.Stretch.{Jumps, here, notes, note-kinds, inlineIn, waitingIn, jumps-le, jumps-next}
+use Rattle.children.specs.Stretch.{Jumps, here, notes, inlineIn, waitingIn}
 use Rattle.children.specs.Spans.{Spans, Lies, spanned}
 use Rattle.tree.proofs.Siblings.{parts-next, parts-over}
 use Rattle.children.proofs.Walks.{parts-more, all-more}
 use Rattle.tree.specs.declared.class.Class.the-variants as Class
 use Rattle.children.specs.Gaps as G
+use Rattle.children.proofs.Stretch.{note-kinds, jumps-le, jumps-next}
+use Rattle.children.proofs.Widening.{widen-none, widen-both}
 use Rattle.text.proofs.Lists.{and-true}
 
 pub go-le : (g : Go) → goCode g ≤ 5

@@ -15,11 +15,12 @@ use Rattle.tree.specs.Class.{is, ofKind, oneOf, kinds, allOf}
 use Rattle.children.specs.Reading.{newlinesBefore, newlinesBack}
 use Rattle.children.specs.Gaps.{spaceIn, errorIn, stops, newlinesAt}
 use Rattle.tree.specs.Index.{Table, partsFrom, partAt, kindAt, textAt, startAt, endAt}
-use Rattle.children.specs.Stretch.{Stretch, Jumps, here, jump, notes, note-kinds, inlineIn, waitingIn, jumps-le, jumps-next}
+use Rattle.children.specs.Stretch.{Stretch, Jumps, here, jump, notes, inlineIn, waitingIn}
 use Rattle.children.specs.Spans.{Lies, Errors, Back, Ahead, gapAt}
 use Rattle.children.proofs.Spanning.{not-error}
 use Rattle.tree.proofs.Siblings.{parts-next, parts-over}
 use Rattle.children.proofs.Walks.{parts-more, all-more}
+use Rattle.children.proofs.Stretch.{note-kinds, jumps-le, jumps-next}
 use Rattle.tree.specs.declared.class.Class.the-variants as Class
 
 -- ---- classes

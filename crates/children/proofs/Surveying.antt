@@ -21,10 +21,12 @@ use Rattle.children.specs.declared.survey.Outline.{Outline}
 use Rattle.children.specs.Gaps as G
 use Rattle.children.specs.Gaps.{Gaps, gaps, newlinesAt, gapSums}
 use Rattle.children.specs.Reading.{newlinesBefore, newlinesBack}
-use Rattle.children.specs.Whole.{sumsOf, first-sums}
+use Rattle.children.specs.Whole.{sumsOf}
 use Rattle.children.specs.Lead.{Leads, leads, led, leadAt, childAfter, readingAfter, SurveyedAfter}
-use Rattle.children.specs.Stretch.{notes, waitingIn, jumps-le}
+use Rattle.children.specs.Stretch.{notes, waitingIn}
 use Rattle.children.specs.Spans.{Spans, spanned, gapAt, Surveying, SurveyedFrom, Surveyed, surveyed}
+use Rattle.children.proofs.Whole.{first-sums}
+use Rattle.children.proofs.Stretch.{jumps-le}
 
 -- The survey so far: what the gaps from s on come to, behind the children so far, is what those from the first on come to.
 pub record Outlining (index text : List ℕ) (w : Kinds) (loose : Bool) (b : ℕ) (s₀ : Span) (k₀ : ℕ) (m₀ : Bool) (s : Span) (k : ℕ) (m : Bool) (n : ℕ) : Type 0 where

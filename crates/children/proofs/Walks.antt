@@ -9,7 +9,8 @@ use Rattle.tree.specs.declared.class.Kinds.{Kinds}
 use Rattle.tree.specs.Class.{oneOf, allOf}
 use Rattle.tree.specs.Index.{Table, Region, partsFrom, partAt, endAt}
 use Rattle.tree.proofs.Siblings.{parts-next, parts-over}
-use Rattle.children.specs.Stretch.{Stretch, Jumps, here, jump, jumps-le}
+use Rattle.children.specs.Stretch.{Stretch, Jumps, here, jump}
+use Rattle.children.proofs.Stretch.{jumps-le}
 
 module _ {index text : List ℕ} {n : ℕ} (t : Table index text n) where
   -- one element more behind

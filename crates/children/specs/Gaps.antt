@@ -1,7 +1,6 @@
 -- A reading as what stands before, between and behind its children: one gap a child, and one at the end.
-use mathlib.Core.Path.{_≡_, refl}
 use mathlib.Core.Bool.{Bool, true, false, cond, not, _&&_, _||_}
-use mathlib.Core.List.{List, [], _∷_, _++_, reverse, append-assoc}
+use mathlib.Core.List.{List, [], _∷_, _++_, reverse}
 use Prim.Native.Nat.{ℕ, suc, _+_}
 use lib.Dec.{leb, eqb}
 use Rattle.text.specs.Basic.{count}
@@ -170,17 +169,3 @@ unfoldable pub gapSums : ℕ → Bool → Gaps → Sums
 gapSums k m (stopped n) = foreignAt n
 gapSums k m (ending g) = sums k m (leb 2 (newlinesAt g)) (g .waiting)
 gapSums k m (child g x gs) = gapSums (suc k) (m || leb 1 (newlinesAt g)) gs
-
--- nothing more in front
-pub widen-none : (gs : Gaps) → widen [] [] gs ≡ gs
-unfolding widen
-widen-none (stopped n) = refl
-widen-none (ending g) = refl
-widen-none (child g x gs) = refl
-
--- more in front twice
-pub widen-both : (xs ys us vs : List Part) (gs : Gaps) → widen xs ys (widen us vs gs) ≡ widen (xs ++ us) (ys ++ vs) gs
-unfolding widen
-widen-both xs ys us vs (stopped n) = refl
-widen-both xs ys us vs (ending g) = rw (append-assoc xs us (g .inline), append-assoc ys vs (g .waiting))
-widen-both xs ys us vs (child g x gs) = rw (append-assoc xs us (g .inline), append-assoc ys vs (g .waiting))

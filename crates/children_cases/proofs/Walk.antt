@@ -8,8 +8,8 @@ use Rattle.tree.specs.declared.class.Kinds.{Kinds}
 use Rattle.tree.specs.Index.{Region, endAt}
 use Rattle.tree.proofs.Siblings.{region-next, region-past}
 use Rattle.children.specs.declared.gap.Span.{Span}
-use Rattle.children.specs.Stretch.{jumps-le}
 use Rattle.children.specs.Spans.{Spans, Surveying}
+use Rattle.children.proofs.Stretch.{jumps-le}
 
 -- a gap from which a walk may go on
 pub walk-from : {index text : List ℕ} {w : Kinds} {l a : Bool} {from b : ℕ} {s : Span} → Spans index text w l a from b s → Surveying index text b s 0

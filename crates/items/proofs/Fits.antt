@@ -20,6 +20,15 @@ use Rattle.items.specs.Records.{recordOf, bytesOf, words, bytes, Counts,
 use Rattle.items.specs.Machine.{State, store, counted, fit, printable, emitted, emitAll, onward, Outcome, halted, reached, halting, reaching, finish, run, seen, Held, held, outcome, Prints, noCounts}
 use Rattle.items.proofs.Decoding.{words-length}
 
+-- before the first item
+abbrev pub starting : List ℕ → List ℕ → Outcome
+starting rs ts = reached (record { records = rs; texts = ts; count = noCounts }) 0
+
+-- the items that a printing gives, all of them or until it stops
+abbrev pub itemsOf : Out → List Item
+itemsOf (stop xs e) = xs
+itemsOf (ok xs k) = xs
+
 -- ---- stores
 
 -- one store after another stores both
@@ -205,12 +214,3 @@ run-reached p rs ts σ k h = go (p 0) (sym (run-start p rs ts) ∙ h)
 pub from-start : {q : Print} {rs ts : List ℕ} {p : Printed} {a : Held} → p ≡ Done noCounts → Prints q (held rs ts p) a → outcome a ≡ run q (starting rs ts)
 unfolding seen
 from-start h k = rw h at (k .ran)
-
--- before the first item
-abbrev pub starting : List ℕ → List ℕ → Outcome
-starting rs ts = reached (record { records = rs; texts = ts; count = noCounts }) 0
-
--- the items that a printing gives, all of them or until it stops
-abbrev pub itemsOf : Out → List Item
-itemsOf (stop xs e) = xs
-itemsOf (ok xs k) = xs

@@ -15,9 +15,9 @@ use Rattle.tree.specs.Tree.{Part}
 use Rattle.tree.specs.Class.{numberOf}
 use Rattle.children.specs.declared.survey.Outline.{Outline}
 use Rattle.children.specs.Reading.{Child, Ending, Reading, foreign, read, isEmpty, anyManyLines, compMembers, compSpecs}
-use Rattle.children.specs.Between.{none-some}
 use Rattle.children.specs.Gaps.{Gap}
 use Rattle.children.specs.Spans.{gapAt}
+use Rattle.children.proofs.Among.{none-some}
 use Rattle.printer.specs.declared.lists.Style.the-variants.{Elements, Arguments, Members, Specs, Binds}
 use Rattle.printer.specs.Combine.{grouped, comma, separator, onlyIf, ending, newlineIf, testOf, bracketed}
 use Rattle.printer.specs.Print.{shared, indented, children, list, arguments, compBody, compOf, comprehension, manyBinds, localOf}

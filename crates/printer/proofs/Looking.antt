@@ -13,7 +13,8 @@ use Rattle.tree.specs.declared.class.Kinds.{Kinds}
 use Rattle.tree.specs.Class.{kinds, nthOf, nth, lastOf, last, plusOf, isPlus, numberOf}
 use Rattle.tree.specs.Index.{endAt, partsFrom}
 use Rattle.children.specs.declared.between.Bounds.{Bounds}
-use Rattle.children.specs.Between.{has, has-here, has-later, none-some, nth-has, last-has, Ends, Bounded}
+use Rattle.children.specs.Between.{has, Ends, Bounded}
+use Rattle.children.proofs.Among.{has-here, has-later, none-some, nth-has, last-has}
 use Rattle.printer.specs.declared.rows.Entry.{Entry}
 use Rattle.printer.specs.Layout
 use Rattle.printer.specs.Layout.{Want, asked}

@@ -22,7 +22,8 @@ use Rattle.tree.specs.declared.class.Kinds.{Kinds}
 use Rattle.tree.specs.Class.{kinds, oneOf, nth, plusOf, numberOf}
 use Rattle.tree.specs.Index.{kindAt, endAt, partAt, partsFrom, Region}
 use Rattle.tree.proofs.Siblings.{region-part, region-past, region-next, parts-over}
-use Rattle.children.specs.Stretch.{Stretch, stretch-none, stretch-both}
+use Rattle.children.specs.Stretch.{Stretch}
+use Rattle.children.proofs.Stretch.{stretch-none, stretch-both}
 use Rattle.printer.specs.declared.rows.Entry.{Entry}
 use Rattle.printer.specs.declared.rows.Extent.{Extent}
 use Rattle.printer.specs.Layout

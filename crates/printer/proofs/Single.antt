@@ -21,11 +21,13 @@ use Rattle.children.specs.Reading.{Child, Ending, Reading, foreign, read}
 use Rattle.children.specs.Comments.{comments}
 use Rattle.children.specs.Gaps.{Gap, Gaps, gapOf, gaps}
 use Rattle.children.specs.Gaps as G
-use Rattle.children.specs.Whole.{childAt, closedBy, preceded, readFrom, readingOf, whole}
-use Rattle.children.specs.Lead.{Leads, leads, led, readingAfter, whole-after}
-use Rattle.children.specs.Stretch.{stretch-both}
+use Rattle.children.specs.Whole.{childAt, closedBy, preceded, readFrom, readingOf}
+use Rattle.children.specs.Lead.{Leads, leads, led, readingAfter}
 use Rattle.children.specs.Spans.{Spans, spanned, gapAt}
-use Rattle.children.specs.Uses.{span-child, span-reached, lead-reached}
+use Rattle.children.proofs.Uses.{span-child, span-reached, lead-reached}
+use Rattle.children.proofs.Whole.{whole}
+use Rattle.children.proofs.Lead.{whole-after}
+use Rattle.children.proofs.Stretch.{stretch-both}
 use Rattle.printer.specs.Print.{children, localOf}
 use Rattle.printer.specs.Under.{Kid, kid-of}
 use Rattle.printer.specs.Walked.{foreign-read, around, walked, walkedAfter, walk-after, through-lead, walk-lead, lead-none}

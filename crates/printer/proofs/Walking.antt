@@ -19,12 +19,12 @@ use Rattle.children.specs.declared.between.Bounds.{Bounds}
 use Rattle.children.specs.declared.gap.Span.{Span}
 use Rattle.children.specs.declared.survey.Outline.{Outline}
 use Rattle.children.specs.Reading.{Reading, foreign, read}
-use Rattle.children.specs.Whole.{whole}
 use Rattle.children.specs.Lead.{SurveyedAfter}
-use Rattle.children.specs.Stretch.{jumps-le}
 use Rattle.children.specs.Gaps.{Gap, gapOf}
 use Rattle.children.specs.Spans.{Lies, Spans, Surveyed, spanned, gapAt}
-use Rattle.children.specs.Uses.{span-reached, survey-reading, survey-after-reading}
+use Rattle.children.proofs.Uses.{span-reached, survey-reading, survey-after-reading}
+use Rattle.children.proofs.Whole.{whole}
+use Rattle.children.proofs.Stretch.{jumps-le}
 use Rattle.printer.specs.declared.lists.Style.{Style}
 use Rattle.printer.specs.Print.{valuesOf}
 use Rattle.printer.specs.Lists.{onLine, behindIt}

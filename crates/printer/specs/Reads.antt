@@ -17,11 +17,12 @@ use Rattle.tree.proofs.Children.{table}
 use Rattle.children.specs.declared.between.Bounds.{Bounds}
 use Rattle.children.specs.declared.gap.Span.{Span}
 use Rattle.children.specs.Reading.{Child, Ending, Reading, foreign, read, pass, start}
-use Rattle.children.specs.Whole.{whole}
-use Rattle.children.specs.Stretch.{Stretch, here, jump, stretch-both}
+use Rattle.children.specs.Stretch.{Stretch, here, jump}
 use Rattle.children.specs.Spans.{Lies, Spans, spanned}
 use Rattle.children.specs.Between.{has, Bounded}
-use Rattle.children.specs.Uses.{span-reached}
+use Rattle.children.proofs.Uses.{span-reached}
+use Rattle.children.proofs.Whole.{whole}
+use Rattle.children.proofs.Stretch.{stretch-both}
 use Rattle.printer.specs.declared.rows.Entry.{Entry}
 use Rattle.printer.specs.Print.{partOr, children}
 use Rattle.printer.specs.Rows.{wantAt}

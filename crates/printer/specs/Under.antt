@@ -17,14 +17,15 @@ use Rattle.tree.proofs.FirstWhere.{where-never}
 use Rattle.tree.proofs.Accepted.{Accepted, accepted}
 use Rattle.tree.proofs.Ends.{end-in, end-deep}
 use Rattle.tree.proofs.Walk.{forest-none, forest-end, forest-here, forest-below}
-use Rattle.tree.specs.Index.{kindAt, endAt, textAt, partsFrom, Indexed, Region, endIn}
+use Rattle.tree.specs.Index.{kindAt, endAt, textAt, partsFrom, Indexed, Region, endIn, Child}
 use Rattle.tree.specs.Class.{first}
 use Rattle.tree.specs.declared.class.Class.the-variants as Class
-use Rattle.tree.proofs.Children.{Child, next-placed, text-under, tree-root, root-level, kind-at, end-at, text-at, children, child-within, table, region-of}
+use Rattle.tree.proofs.Children.{next-placed, text-under, tree-root, root-level, kind-at, end-at, text-at, children, child-within, table, region-of}
 use Rattle.tree.proofs.Elements.{elements-cons, elements-none}
 use Rattle.children.specs.Stretch.{Stretch}
-use Rattle.children.specs.Between.{has, among}
-use Rattle.children.specs.Kids.{jumped, stretched}
+use Rattle.children.specs.Between.{has}
+use Rattle.children.proofs.Kids.{jumped, stretched}
+use Rattle.children.proofs.Among.{among}
 use Rattle.printer.specs.Print.{element, prints, source, sourceFile}
 
 -- the children of element i

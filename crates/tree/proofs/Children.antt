@@ -16,7 +16,7 @@ use Rattle.tree.specs.Refusal.{misplacedAfter, firstMisplaced}
 use Rattle.tree.proofs.FirstWhere.{misplacedFrom, misplaced-search, still-none, split-none}
 use Rattle.tree.proofs.Accepted.{Accepted, accepted, Passing, passing}
 use Rattle.tree.proofs.Ends.{deeperFrom, deeper-here, deeper-not, deeper-over, end-past, end-in, end-deep, end-up, end-under}
-use Rattle.tree.specs.Index.{kindAt, endAt, startAt, Indexed, Table, Region, textAt, partAt, walk, partsFrom, endIn, Indexable}
+use Rattle.tree.specs.Index.{kindAt, endAt, startAt, Indexed, Table, Region, textAt, partAt, walk, partsFrom, endIn, Indexable, Child}
 use Rattle.tree.proofs.Walk.{forest-none, forest-end, forest-here, forest-skip, Placed, well-placed, joined, texts-under}
 use Rattle.text.proofs.Lists.{and-true}
 use Rattle.tree.specs.Answer.{said, answer}
@@ -136,13 +136,6 @@ module _ {image : List ℕ} (a : Accepted image) where
       rw (elements-cons image 0 (a .not-empty), forest-here 0 (elementIn image 0) (drop 1 (elementsOf image)) root-level, p)
 
 -- ---- children
-
--- j is a child of i, or the end of i's children
-pub record Child (image : List ℕ) (i j : ℕ) : Type 0 where
-  pub node : i < countN image
-  pub behind : i < j
-  pub upto : j ≤ endIn image i
-  pub level : j < endIn image i → levelIn image j ≡ suc (levelIn image i)
 
 -- element j as its parent sees it
 abbrev pub partIn : List ℕ → ℕ → Part

@@ -94,3 +94,10 @@ pub record Region (index text : List ℕ) (a b : ℕ) : Type 0 where
   pub table : Table index text n
   pub begins : a ≤ n
   pub ends : b ≤ n
+
+-- j is a child of i, or the end of i's children
+pub record Child (image : List ℕ) (i j : ℕ) : Type 0 where
+  pub node : i < countN image
+  pub behind : i < j
+  pub upto : j ≤ endIn image i
+  pub level : j < endIn image i → levelIn image j ≡ suc (levelIn image i)

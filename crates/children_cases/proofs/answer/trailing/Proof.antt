@@ -1,4 +1,4 @@
-use Rattle.children.specs.Uses.{lead-next}
+use Rattle.children.proofs.Uses.{lead-next}
 use Rattle.children_cases.proofs.Walk.{walk-from}
 use borrow.Author.Needs.{needs}
 use Rattle.children_cases.proofs.answer.trailing.Statement.{statement}

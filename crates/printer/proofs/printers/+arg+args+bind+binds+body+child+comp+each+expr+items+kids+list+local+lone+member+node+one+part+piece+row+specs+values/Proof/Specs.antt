@@ -2,7 +2,7 @@ use Prim.Native.Nat.{ℕ}
 use borrow.Author.Needs.{needs}
 use native.Mathlib.Omega.{arith}
 use Rattle.items.proofs.Laws.{_▸_, by, idle}
-use Rattle.children.specs.Uses.{lead-next}
+use Rattle.children.proofs.Uses.{lead-next}
 use Rattle.printer.proofs.Walking.{unasked-lies, unasked-around}
 use Rattle.printer.proofs.Single.{spec-kid, specs-none, specs-some, specs-walks}
 use Rattle.printer.proofs.printers.specs.Reads as specs

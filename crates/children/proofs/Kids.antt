@@ -6,9 +6,10 @@ use native.Mathlib.Omega.{arith}
 use native.Mathlib.Decide.{decLt}
 use Rattle.tree.specs.Tree.{countN}
 use Rattle.tree.proofs.Accepted.{accepted}
-use Rattle.tree.specs.Index.{endAt, Indexed, Table, endIn}
-use Rattle.tree.proofs.Children.{Child, child-first, child-next, end-at}
-use Rattle.children.specs.Stretch.{Jumps, here, jump, jumps-le, Stretch}
+use Rattle.tree.specs.Index.{endAt, Indexed, Table, endIn, Child}
+use Rattle.tree.proofs.Children.{child-first, child-next, end-at}
+use Rattle.children.specs.Stretch.{Jumps, here, jump, Stretch}
+use Rattle.children.proofs.Stretch.{jumps-le}
 
 module _ {image index text : List ℕ} {n : ℕ} (x : Indexed image index) (t : Table index text n) where
   -- no table of a tree's index goes past the tree: the last entry ends at itself

@@ -13,10 +13,13 @@ use Rattle.children.specs.Reading.{pass, start}
 use Rattle.children.specs.Gaps.{Gaps, gaps}
 use Rattle.tree.specs.Index.{Region, partsFrom, partAt, endAt}
 use Rattle.tree.proofs.Siblings.{region-next}
-use Rattle.children.specs.Stretch.{Stretch, stretch-both}
+use Rattle.children.specs.Stretch.{Stretch}
 use Rattle.children.specs.Spans.{Spans, spanned, gapAt, Surveyed, surveyed}
-use Rattle.children.specs.Lead.{Leads, SurveyedAfter, whole-after}
-use Rattle.children.specs.Whole.{whole, whole-sums, sumsOf}
+use Rattle.children.specs.Lead.{Leads, SurveyedAfter}
+use Rattle.children.specs.Whole.{sumsOf}
+use Rattle.children.proofs.Whole.{whole, whole-sums}
+use Rattle.children.proofs.Lead.{whole-after}
+use Rattle.children.proofs.Stretch.{stretch-both}
 use Rattle.tree.specs.declared.class.Class.{Class}
 
 module _ {index text : List ℕ} {w : Kinds} {loose after : Bool} {from b : ℕ} {r : Span} (h : Spans index text w loose after from b r) where
