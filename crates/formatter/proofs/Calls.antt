@@ -25,8 +25,8 @@ use Rattle.tree.proofs.Accepted.{accepted}
 use Rattle.tree.specs.Index.{Indexed}
 use Rattle.listing.specs.Listing.{headLine, listing}
 use Rattle.listing.specs.Writes.{page, Writes}
-use Rattle.listing.specs.Told.{Told, itemsIn, items-are}
-use Rattle.listing.specs.Told.{told as tell}
+use Rattle.listing.specs.Told.{Told, itemsIn}
+use Rattle.listing.proofs.Told.{items-are, told as tell}
 use Rattle.printer.specs.Print.{sourceFile}
 use Rattle.formatter.specs.declared.Answer as code
 use Rattle.formatter.specs.declared.refusal.Refusal as code-refusal

@@ -1,12 +1,13 @@
--- Laws that belong to no one function.
+-- Laws that belong to no one function. Those of a `pub mod` are cited by other crates.
+mod Agree
+mod Answering
+mod Bound
 mod Calls
-mod Responses
-pub mod Agree
-pub mod Tests
-pub mod Weights
-pub mod Columns
-pub mod Bound
-pub mod Counted
-pub mod Fitted
-pub mod Numbers
-pub mod Answering
+mod Columns
+mod Counted
+mod Examples
+mod Fitted
+mod Numbers
+pub mod Responses
+mod Tests
+mod Weights

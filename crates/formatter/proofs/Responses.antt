@@ -4,11 +4,12 @@ use mathlib.Core.Option.{some}
 use mathlib.Core.List.{List}
 use Prim.Native.Nat.{ℕ, _*_, _<_, _^_}
 use native.Mathlib.Omega.{arith}
-use lib.ListN.{length, length-replicate, length-append}
+use lib.ListN.{length, length-replicate, length-append, take, drop}
 use Rattle.items.proofs.Fits.{store-overlaid}
 use Rattle.listing.specs.Listing.{listing, refusedLine}
-use Rattle.listing.specs.Refused.{refused-short}
-use Rattle.listing.specs.Writes.{page, Writes, kept}
+use Rattle.listing.proofs.Refused.{refused-short}
+use Rattle.listing.specs.Writes.{page, Writes}
+use Rattle.listing.proofs.Writes.{kept}
 use Rattle.formatter.specs.declared.refusal.Refusal.{Refusal}
 use Rattle.formatter.specs.declared.refusal.Numbered.{Numbered}
 use Rattle.formatter.specs.declared.ListAnswer.{ListAnswer}
@@ -17,6 +18,8 @@ use Rattle.items.specs.Records.{Counts}
 use Rattle.formatter.specs.Answer.{Verdict, turnedAway, printed, verdict, withRoom, withListing, ruling, answerOf, answer, bufferOf, listingAfter}
 use Rattle.formatter.specs.Told.{numberOf, elementOf, toldList}
 use Rattle.formatter.specs.Program.{blank, judged, printedOf, response, numberIn, Responds}
+use lib.Seq.{take-at}
+use Rattle.formatter.specs.declared.program.Response.{Response}
 
 blank-long : (n : ℕ) → length (blank n) ≡ n
 unfolding blank
@@ -66,3 +69,7 @@ module _ (image rs ts ls : List ℕ) (a : length rs ≡ 3 * 5000) (b : length ts
             inside = omega (arith, w .counted, kept w, ap length z);
           }
       go (printed xs) g h z = absurd (let z : _≡_ {A = ℕ} 0 1 = cc in omega arith)
+
+-- the bytes of the front are those that are printed
+pub front : {image entry exit : List ℕ} {r : Response} → Responds image entry exit r → take (r .bytes) exit ≡ response image
+front {image} {entry} h = rw (h .written) (take-at (response image) (drop (length (response image)) entry) _ (sym (h .counted)))

@@ -1,11 +1,10 @@
 -- What the program prints: 'A program reads a tree image from standard input, with room for 5,000 records, 32,000 text bytes and 65,536 listing bytes, and prints the
 -- listing, or one line with `refused`, number and element.'
-use mathlib.Core.Path.{_≡_, sym}
+use mathlib.Core.Path.{_≡_}
 use mathlib.Core.Option.{some}
 use mathlib.Core.List.{List}
 use Prim.Native.Nat.{ℕ, _*_, _≤_}
-use lib.ListN.{length, take, drop, replicate}
-use lib.Seq.{take-at}
+use lib.ListN.{length, replicate}
 use Rattle.items.specs.Records.{overlaid}
 use Rattle.listing.specs.Listing.{listing, refusedLine}
 use Rattle.formatter.specs.declared.program.Response.{Response}
@@ -39,7 +38,3 @@ pub record Responds (image entry exit : List ℕ) (r : Response) : Type 0 where
   pub counted : r .bytes ≡ length (response image)
   pub written : exit ≡ overlaid (response image) entry
   pub inside : r .bytes ≤ length exit
-
--- the bytes of the front are those that are printed
-pub front : {image entry exit : List ℕ} {r : Response} → Responds image entry exit r → take (r .bytes) exit ≡ response image
-front {image} {entry} h = rw (h .written) (take-at (response image) (drop (length (response image)) entry) _ (sym (h .counted)))

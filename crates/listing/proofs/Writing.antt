@@ -7,8 +7,9 @@ use native.Mathlib.Numerals.{add-one}
 use lib.ListN.{length, set, getD, drop, drop-of-length-le, length-append}
 use lib.Seq.{drop-cons}
 use Rattle.items.specs.Machine.{store}
-use Rattle.listing.specs.Writes.{Page, page, Writes, blank, _▸_, by, Room, room-first, room-as}
+use Rattle.listing.specs.Writes.{Page, page, Writes, Room}
 use Rattle.listing.specs.Shown.{lineAt, linesFrom}
+use Rattle.listing.proofs.Writes.{blank, _▸_, by, room-first, room-as}
 
 -- one byte is stored at its place
 pub one-byte : (b : List ℕ) {b′ : List ℕ} (n x : ℕ) {r : ℕ} → b′ ≡ set b n x → r ≡ n + 1 → Writes (x ∷ []) (page b n) (page b′ r)

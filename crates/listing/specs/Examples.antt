@@ -1,12 +1,8 @@
 -- The example of a listing: 'For the tree of `[1]` without spaces'.
-use mathlib.Core.Path.{_≡_, refl}
-use mathlib.Core.List.{List, [], _∷_, _++_, flatten, map}
+use mathlib.Core.List.{List, [], _∷_}
 use Prim.Native.String.{String}
-use Rattle.text.specs.Basic.{ascii, sum}
+use Rattle.text.specs.Basic.{ascii}
 use Rattle.items.specs.Item.{lines, Item, text, newline, spaceOrNewline, mark, group, groupEnd, block, blockEnd, run, runEnd, again, ifTest, elseItem, endIf}
-use Rattle.items.specs.Records.{bytes}
-use Rattle.items.specs.Lines.{digits, decimal, described, recordLines}
-use Rattle.listing.specs.Listing.{headLine, listing}
 
 -- the items of `[1]`
 abbrev pub oneItems : List Item
@@ -17,15 +13,10 @@ oneItems =
     ∷ []
 
 -- the lines of its listing
-abbrev oneLines : List String
+abbrev pub oneLines : List String
 oneLines =
     "records 28 texts 5 runs 1 marks 2" ∷ "0 text 1 [" ∷ "1 mark 0" ∷ "2 if lines 0" ∷ "3 block" ∷ "4 newline" ∷ "5 run 0" ∷ "6 group" ∷ "7 group"
     ∷ "8 text 1 1" ∷ "9 if lines 0" ∷ "10 text 1 ," ∷ "11 end-if" ∷ "12 if lines 0" ∷ "13 newline" ∷ "14 else" ∷ "15 space-or-newline" ∷ "16 end-if"
     ∷ "17 group-end" ∷ "18 group-end" ∷ "19 run-end 0" ∷ "20 block-end" ∷ "21 else" ∷ "22 text 1  " ∷ "23 again 0" ∷ "24 end-if" ∷ "25 text 1 ]"
     ∷ "26 mark 1" ∷ "27 newline"
     ∷ []
-
--- the listing of these items is these lines, each ended by LF
-pub one-listed : listing oneItems ≡ flatten (map (λ s. ascii s ++ (10 ∷ [])) oneLines)
-unfolding digits decimal described recordLines headLine listing bytes sum flatten
-one-listed = refl

@@ -1,6 +1,5 @@
 -- Definitions that the contracts cite, and the laws that callers cite.
 pub mod Listing
-pub mod Refused
 pub mod Examples
 pub mod Writes
 pub mod Told

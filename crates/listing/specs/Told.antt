@@ -19,12 +19,3 @@ itemsIn rs ts n = orNone (decoded rs ts n)
 pub record Told (rs ts : List ℕ) (c : Counts) : Type 0 where
   pub decodes : decoded rs ts (c .records) ≡ some (itemsIn rs ts (c .records))
   pub counts : c ≡ countsOf (itemsIn rs ts (c .records))
-
--- records that decode to xs have these items
-pub items-are : (rs ts : List ℕ) (n : ℕ) (xs : List Item) → decoded rs ts n ≡ some xs → itemsIn rs ts n ≡ xs
-unfolding itemsIn
-items-are rs ts n xs h = rw h
-
--- records that decode to xs, with the counts of xs, are told
-pub told : (rs ts : List ℕ) (c : Counts) (xs : List Item) → decoded rs ts (c .records) ≡ some xs → c ≡ countsOf xs → Told rs ts c
-told rs ts c xs h e = let i = items-are rs ts (c .records) xs h in record { decodes = rw i h; counts = rw i e }

@@ -1,11 +1,15 @@
--- Laws that belong to no one function.
-pub mod Chosen
-pub mod Listing
-pub mod Looking
-pub mod Nodes
-pub mod Printed
-pub mod Rowing
-pub mod Single
-pub mod Sources
-pub mod Tables
-pub mod Walking
+-- Laws that belong to no one function. Those of a `pub mod` are cited by other crates.
+mod Chosen
+mod Listing
+mod Looking
+mod Nodes
+mod Printed
+mod Readings
+mod Rowing
+mod Seq
+mod Single
+mod Sources
+mod Tables
+mod Under
+mod Walked
+mod Walking

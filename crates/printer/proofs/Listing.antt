@@ -22,7 +22,7 @@ use Rattle.printer.specs.declared.lists.Style.the-variants.{Elements, Ar
 use Rattle.printer.specs.Combine.{grouped, comma, separator, onlyIf, ending, newlineIf, testOf, bracketed}
 use Rattle.printer.specs.Print.{shared, indented, children, list, arguments, compBody, compOf, comprehension, manyBinds, localOf}
 use Rattle.printer.specs.Lists.{onLine, behindIt, above, following, endingOf, openList, endBody, repeatBody, closeBracket, closeList, closeArguments}
-use Rattle.printer.specs.Seq.{seq-assoc, none-first, none-last}
+use Rattle.printer.proofs.Seq.{seq-assoc, none-first, none-last}
 use Rattle.printer.specs.Walked.{around, Outlined}
 use Rattle.printer.specs.Reads.{kidsIn}
 

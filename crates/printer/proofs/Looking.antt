@@ -19,8 +19,9 @@ use Rattle.printer.specs.declared.rows.Entry.{Entry}
 use Rattle.printer.specs.Layout
 use Rattle.printer.specs.Layout.{Want, asked}
 use Rattle.printer.specs.Rows.{wantAt, wanted, pieceOf}
-use Rattle.printer.specs.Under.{At, partsOf, at-region}
+use Rattle.printer.specs.Under.{At, partsOf}
 use Rattle.printer.specs.Reads.{partFor, Has}
+use Rattle.printer.proofs.Under.{at-region}
 
 -- ---- what was found
 

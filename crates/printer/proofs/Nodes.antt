@@ -10,7 +10,8 @@ use Rattle.items.specs.Item.{Print, text, say}
 use Rattle.tree.specs.Index.{kindAt, textAt}
 use Rattle.printer.specs.Layout.{layout}
 use Rattle.printer.specs.Print.{element, row}
-use Rattle.printer.specs.Under.{At, under, printOf, partsOf, node-is}
+use Rattle.printer.specs.Under.{At, under, printOf, partsOf}
+use Rattle.printer.proofs.Under.{node-is}
 
 -- a kind with a row, as `element` asks for it
 pub record Rowed (k : ℕ) : Type 0 where

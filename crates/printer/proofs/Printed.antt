@@ -32,8 +32,9 @@ use Rattle.printer.specs.Rows.{words, wordAt, Word, wordOrNone}
 use Rattle.printer.specs.Lists.{onLine, behindIt, endingOf, openList, closeList, closeArguments, openerOf, closerOf, childOf}
 use Rattle.printer.specs.Under.{partsOf}
 use Rattle.printer.specs.Walked.{Outlined}
-use Rattle.printer.specs.Reads.{numberOr, part-number, readAt, kidsIn}
+use Rattle.printer.specs.Reads.{numberOr, readAt, kidsIn}
 use Rattle.printer.proofs.Listing.{list-empty, list-full, args-full, comp-members, comp-full, local-many}
+use Rattle.printer.proofs.Readings.{part-number}
 
 -- ---- readings by their bounds
 

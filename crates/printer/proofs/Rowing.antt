@@ -30,9 +30,11 @@ use Rattle.printer.specs.Layout
 use Rattle.printer.specs.Layout.{asked, layout, rows}
 use Rattle.printer.specs.Print.{eachOf, what, row}
 use Rattle.printer.specs.Rows.{words, wordAt, wordOrNone, wantAt, whatOf, pieceOf, pieces, pieceAt, settled, Coded, RowOf}
-use Rattle.printer.specs.Seq.{Goes, goes-none, goes-more, goes-all, seq-assoc, none-first, none-last}
-use Rattle.printer.specs.Under.{At, Kid, under, partsOf, printOf, size, kid-of, kid-found, kid-print, kid-less, at-region}
-use Rattle.printer.specs.Reads.{numberOr, part-number, partFor, Has, behind-kid}
+use Rattle.printer.proofs.Seq.{Goes, goes-none, goes-more, goes-all, seq-assoc, none-first, none-last}
+use Rattle.printer.specs.Under.{At, Kid, under, partsOf, printOf}
+use Rattle.printer.specs.Reads.{numberOr, partFor, Has}
+use Rattle.printer.proofs.Under.{size, kid-of, kid-found, kid-print, kid-less, at-region}
+use Rattle.printer.proofs.Readings.{part-number, behind-kid}
 
 -- ---- the pieces of a row in turn
 

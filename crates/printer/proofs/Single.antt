@@ -29,9 +29,12 @@ use Rattle.children.proofs.Whole.{whole}
 use Rattle.children.proofs.Lead.{whole-after}
 use Rattle.children.proofs.Stretch.{stretch-both}
 use Rattle.printer.specs.Print.{children, localOf}
-use Rattle.printer.specs.Under.{Kid, kid-of}
-use Rattle.printer.specs.Walked.{foreign-read, around, walked, walkedAfter, walk-after, through-lead, walk-lead, lead-none}
-use Rattle.printer.specs.Reads.{Within, Whole, readAt, kidsIn, Walks, behind-kid}
+use Rattle.printer.specs.Under.{Kid}
+use Rattle.printer.specs.Walked.{around, walked, walkedAfter}
+use Rattle.printer.specs.Reads.{Within, Whole, readAt, kidsIn, Walks}
+use Rattle.printer.proofs.Walked.{foreign-read, walk-after, through-lead, walk-lead, lead-none}
+use Rattle.printer.proofs.Under.{kid-of}
+use Rattle.printer.proofs.Readings.{behind-kid}
 
 -- ---- the one bind of a local
 

@@ -17,8 +17,10 @@ use Rattle.children.specs.Reading.{triviaBefore, triviaAfter}
 use Rattle.children.specs.Stretch.{notes}
 use Rattle.children.specs.Between.{Beside, aroundAt}
 use Rattle.printer.specs.Print.{source, sourceOf, sourceFile}
-use Rattle.printer.specs.Under.{At, under, partsOf, source-is}
-use Rattle.printer.specs.Reads.{numberOr, part-number}
+use Rattle.printer.specs.Under.{At, under, partsOf}
+use Rattle.printer.specs.Reads.{numberOr}
+use Rattle.printer.proofs.Under.{source-is}
+use Rattle.printer.proofs.Readings.{part-number}
 
 -- the root
 pub root-at : {image index : List ℕ} → Indexed image index → At image index 0

@@ -28,10 +28,13 @@ use Rattle.children.proofs.Stretch.{jumps-le}
 use Rattle.printer.specs.declared.lists.Style.{Style}
 use Rattle.printer.specs.Print.{valuesOf}
 use Rattle.printer.specs.Lists.{onLine, behindIt}
-use Rattle.printer.specs.Seq.{Goes, goes-none, goes-more, goes-all}
-use Rattle.printer.specs.Under.{under, printOf, kid-print, kid-at}
-use Rattle.printer.specs.Walked.{around, walked, valued, Outlined, outlined, outlined-foreign, walk-next, walk-none, value-next, value-none, value-read}
-use Rattle.printer.specs.Reads.{Within, Whole, readAt, kidsIn, Walks, walks-first, walks-kid, walks-next}
+use Rattle.printer.proofs.Seq.{Goes, goes-none, goes-more, goes-all}
+use Rattle.printer.specs.Under.{under, printOf}
+use Rattle.printer.specs.Walked.{around, walked, Outlined}
+use Rattle.printer.specs.Reads.{Within, Whole, readAt, kidsIn, Walks}
+use Rattle.printer.proofs.Walked.{valued, outlined, outlined-foreign, walk-next, walk-none, value-next, value-none, value-read}
+use Rattle.printer.proofs.Under.{kid-print, kid-at}
+use Rattle.printer.proofs.Readings.{walks-first, walks-kid, walks-next}
 
 -- ---- what a survey says
 

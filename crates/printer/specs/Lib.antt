@@ -4,7 +4,6 @@ pub mod Combine
 pub mod Print
 pub mod Rows
 pub mod Lists
-pub mod Seq
 pub mod Under
 pub mod Walked
 pub mod Reads

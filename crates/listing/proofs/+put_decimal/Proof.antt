@@ -4,7 +4,6 @@ use native.Mathlib.Omega.{arith}
 use borrow.Author.Needs.{needs}
 use borrow.Fn.Kinds.{In}
 use borrow.Fn.PlainCycle.{Measures, is, falls, and}
-use Rattle.listing.specs.Writes.{by, _▸_, kept, room-first, _⟫_, room-as}
 use Rattle.items.proofs.Decimals.{one-digit, last-digit}
 use Rattle.listing.proofs.put_decimal.Reads as put-decimal
 use Rattle.listing.proofs.put_decimal.Kinds as put-decimal-kinds
@@ -13,6 +12,7 @@ use Rattle.listing.proofs.digit.Reads as digit-reads
 use Rattle.listing.proofs.put_byte.Reads as put-byte-reads
 use Rattle.listing.proofs.+put_decimal.{statement}
 use Rattle.listing.proofs.+put_decimal.Tie.{close}
+use Rattle.listing.proofs.Writes.{by, _▸_, kept, room-first, _⟫_, room-as}
 
 -- the number that is written falls
 abbrev μ-put-decimal : Measures 1 put-decimal-kinds.ps ℕ

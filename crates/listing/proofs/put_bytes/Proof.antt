@@ -1,10 +1,11 @@
 use Prim.Native.Nat.{_-_}
 use borrow.Author.Needs.{needs}
 use lib.ListN.{length, drop}
-use Rattle.listing.specs.Writes.{page, kept}
+use Rattle.listing.specs.Writes.{page}
 use Rattle.listing.proofs.Writing.{Writing, bytes-none, bytes-more, bytes-all, bytes-room}
 use Rattle.listing.proofs.put_bytes.Statement.{statement}
 use Rattle.listing.proofs.put_bytes.Tie as tie
+use Rattle.listing.proofs.Writes.{kept}
 
 abbrev Inv-loop : tie.InvT-loop
 Inv-loop out₀ at s next₀ i₀ out next i = Writing s (drop i s) (page out₀ at) (page out next)

@@ -1,6 +1,6 @@
-use Rattle.listing.specs.Writes.{_▸_, kept, room-first, _⟫_}
 use Rattle.listing.proofs.put_field.Statement.{statement}
 use Rattle.listing.proofs.put_field.Tie as tie
+use Rattle.listing.proofs.Writes.{_▸_, kept, room-first, _⟫_}
 
 returns : tie.Need-returns
 returns c =

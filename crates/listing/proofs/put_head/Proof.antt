@@ -1,9 +1,9 @@
 use borrow.Author.Needs.{needs}
-use Rattle.listing.specs.Writes.{_▸_, kept, room-first, _⟫_}
 use Rattle.listing.specs.Listing.{headLine}
 use Rattle.items.specs.Names.{names, nameAt}
 use Rattle.listing.proofs.put_head.Statement.{statement}
 use Rattle.listing.proofs.put_head.Tie as tie
+use Rattle.listing.proofs.Writes.{_▸_, kept, room-first, _⟫_}
 
 put-field-requires-4 : tie.Need-put-field-requires-4
 unfolding headLine names nameAt

@@ -1,9 +1,9 @@
 use borrow.Author.Needs.{needs}
 use native.Mathlib.Omega.{arith}
-use Rattle.listing.specs.Writes.{by, kept, room-as}
 use Rattle.listing.proofs.Items.{shown-text, shown-lines, shown-number, shown-name}
 use Rattle.listing.proofs.put_item.Statement.{statement}
 use Rattle.listing.proofs.put_item.Tie as tie
+use Rattle.listing.proofs.Writes.{by, kept, room-as}
 
 returns : tie.Need-returns
 returns c = by (shown-text _ _ _ _ (c .before .before .before .before .if1 .taken)) (c .before .before .put-text .ensures)

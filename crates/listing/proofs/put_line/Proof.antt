@@ -1,8 +1,8 @@
 use borrow.Author.Needs.{needs}
-use Rattle.listing.specs.Writes.{_▸_, kept, room-first, _⟫_}
 use Rattle.listing.specs.Shown.{lineAt}
 use Rattle.listing.proofs.put_line.Statement.{statement}
 use Rattle.listing.proofs.put_line.Tie as tie
+use Rattle.listing.proofs.Writes.{_▸_, kept, room-first, _⟫_}
 
 put-item-requires : tie.Need-put-item-requires
 unfolding lineAt

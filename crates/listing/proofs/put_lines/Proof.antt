@@ -1,9 +1,10 @@
 use Prim.Native.Nat.{_-_}
 use borrow.Author.Needs.{needs}
-use Rattle.listing.specs.Writes.{page, kept}
+use Rattle.listing.specs.Writes.{page}
 use Rattle.listing.proofs.Writing.{Lining, lines-none, lines-more, lines-all, lines-room}
 use Rattle.listing.proofs.put_lines.Statement.{statement}
 use Rattle.listing.proofs.put_lines.Tie as tie
+use Rattle.listing.proofs.Writes.{kept}
 
 abbrev Inv-loop : tie.InvT-loop
 Inv-loop out₀ at records texts n next₀ i₀ out next i = Lining records texts n (page out₀ at) (page out next) i

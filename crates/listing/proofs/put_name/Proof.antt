@@ -1,11 +1,11 @@
 use borrow.Author.Needs.{needs}
 use mathlib.Core.List.{flatten}
 use native.Mathlib.Omega.{arith}
-use Rattle.listing.specs.Writes.{by, kept, room-as}
 use Rattle.items.specs.Names.{names}
 use Rattle.items.proofs.Lengths.{start-le, start-in, name-part}
 use Rattle.listing.proofs.put_name.Statement.{statement}
 use Rattle.listing.proofs.put_name.Tie as tie
+use Rattle.listing.proofs.Writes.{by, kept, room-as}
 
 put-bytes-requires : tie.Need-put-bytes-requires
 unfolding names flatten

@@ -1,9 +1,9 @@
 use borrow.Author.Needs.{needs}
-use Rattle.listing.specs.Writes.{_▸_, by, kept, room-first, _⟫_, room-as}
 use Rattle.listing.specs.Shown.{storedText}
 use Rattle.listing.proofs.Items.{text-part}
 use Rattle.listing.proofs.put_text.Statement.{statement}
 use Rattle.listing.proofs.put_text.Tie as tie
+use Rattle.listing.proofs.Writes.{_▸_, by, kept, room-first, _⟫_, room-as}
 
 put-bytes-requires : tie.Need-put-bytes-requires
 unfolding storedText

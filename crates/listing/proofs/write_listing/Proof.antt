@@ -1,5 +1,4 @@
 use native.Mathlib.Omega.{arith}
-use Rattle.listing.specs.Writes.{_▸_, by, kept, room-first, _⟫_}
 use Rattle.listing.proofs.Whole.{Ready, ready}
 use Rattle.listing.proofs.put_head.Reads as put-head-reads
 use Rattle.listing.proofs.put_lines.Reads as put-lines-reads
@@ -7,6 +6,7 @@ use Rattle.listing.proofs.write_listing.Reads as reads
 use Rattle.listing.proofs.write_listing.Lts as lts
 use Rattle.listing.proofs.write_listing.Statement.{statement}
 use Rattle.listing.proofs.write_listing.Tie as tie
+use Rattle.listing.proofs.Writes.{_▸_, by, kept, room-first, _⟫_}
 
 -- at the first call
 abbrev Entered : Type 0

@@ -2,10 +2,11 @@ use Prim.Native.Nat.{ℕ, _<_, _^_}
 use native.Mathlib.Omega.{arith}
 use borrow.Author.Needs.{needs}
 use Rattle.listing.specs.Listing.{refusedLine}
-use Rattle.listing.specs.Refused.{refused-short}
-use Rattle.listing.specs.Writes.{_▸_, kept, Room, room-first, _⟫_}
+use Rattle.listing.proofs.Refused.{refused-short}
+use Rattle.listing.specs.Writes.{Room}
 use Rattle.listing.proofs.write_refused.Statement.{statement}
 use Rattle.listing.proofs.write_refused.Tie as tie
+use Rattle.listing.proofs.Writes.{_▸_, kept, room-first, _⟫_}
 
 room : (n e : ℕ) → n < 2 ^ 64 → e < 2 ^ 64 → Room (refusedLine n e) 0
 room n e h k = record { fits = omega (arith, refused-short n e h k) }

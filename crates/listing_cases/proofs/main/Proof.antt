@@ -3,8 +3,8 @@ use mathlib.Core.Path.{refl}
 use Rattle.text.specs.Basic.{sum}
 use Rattle.items.specs.Lines.{digits, decimal, described, recordLines}
 use Rattle.items.specs.Records.{bytes, decoded, itemOf}
-use Rattle.listing.specs.Told.{told}
 use Rattle.listing.specs.Examples.{oneItems}
+use Rattle.listing.proofs.Told.{told}
 use Rattle.listing_cases.specs.Cases.{everyItems}
 use Rattle.listing_cases.proofs.main.Statement.{statement}
 use Rattle.listing_cases.proofs.main.Tie as tie

@@ -2,9 +2,9 @@ use mathlib.Core.Path.{sym, refl, _∙_}
 use mathlib.Core.Bool.{false≢true}
 use lib.Seq.{length-take-le}
 use borrow.Author.Needs.{needs}
-use Rattle.formatter.specs.Program.{front}
 use Rattle.vectors.proofs.replied.Statement.{statement}
 use Rattle.vectors.proofs.replied.Tie as tie
+use Rattle.formatter.proofs.Responses.{front}
 
 returns : tie.Need-returns
 returns c =

@@ -1,8 +1,8 @@
 use native.Mathlib.Omega.{arith}
 use borrow.Author.Needs.{needs}
-use Rattle.printer.specs.Under.{at-next}
 use Rattle.printer.proofs.look.first_in.Statement.{statement}
 use Rattle.printer.proofs.look.first_in.Tie as tie
+use Rattle.printer.proofs.Under.{at-next}
 
 pub first-in-spec : {M : Type 1} → statement M
 first-in-spec =

@@ -1,8 +1,8 @@
 use borrow.Author.Needs.{needs}
-use Rattle.printer.specs.Under.{at-region}
 use Rattle.printer.proofs.Looking.{part-wanted, part-plus}
 use Rattle.printer.proofs.look.part_of.Statement.{statement}
 use Rattle.printer.proofs.look.part_of.Tie as tie
+use Rattle.printer.proofs.Under.{at-region}
 
 pub part-of-spec : {M : Type 1} → statement M
 part-of-spec =

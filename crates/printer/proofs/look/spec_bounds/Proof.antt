@@ -1,8 +1,8 @@
 use borrow.Author.Needs.{needs}
-use Rattle.printer.specs.Under.{at-region}
 use Rattle.printer.proofs.Looking.{last-found, or-found, first-has, last-part, or-has, ends-has, bounded-as}
 use Rattle.printer.proofs.look.spec_bounds.Statement.{statement}
 use Rattle.printer.proofs.look.spec_bounds.Tie as tie
+use Rattle.printer.proofs.Under.{at-region}
 
 bounds : tie.Need-bounds-between-requires
 bounds c κs =

@@ -1,8 +1,8 @@
 use borrow.Author.Needs.{needs}
-use Rattle.printer.specs.Under.{at-region}
 use Rattle.printer.proofs.Looking.{nth-found}
 use Rattle.printer.proofs.look.wanted_part.Statement.{statement}
 use Rattle.printer.proofs.look.wanted_part.Tie as tie
+use Rattle.printer.proofs.Under.{at-region}
 
 pub wanted-part-spec : {M : Type 1} → statement M
 wanted-part-spec =

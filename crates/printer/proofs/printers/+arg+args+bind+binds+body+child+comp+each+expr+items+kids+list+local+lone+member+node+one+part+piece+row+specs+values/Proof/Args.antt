@@ -3,13 +3,13 @@ use borrow.Author.Needs.{needs}
 use mathlib.Core.Path.{_∙_}
 use native.Mathlib.Omega.{arith}
 use Rattle.items.proofs.Laws.{by}
-use Rattle.printer.specs.Reads.{within}
 use Rattle.printer.proofs.Walking.{survey-outlined, survey-foreign, outlined-whole}
 use Rattle.printer.proofs.Listing.{args-foreign}
 use Rattle.printer.proofs.Printed.{enclosed-reading, left-paren, right-paren, prints-args}
 use Rattle.printer.proofs.printers.args.Reads as args
 use Rattle.printer.proofs.printers.+arg+args+bind+binds+body+child+comp+each+expr+items+kids+list+local+lone+member+node+one+part+piece+row+specs+values.Lts-args as lts
 use Rattle.printer.proofs.printers.+arg+args+bind+binds+body+child+comp+each+expr+items+kids+list+local+lone+member+node+one+part+piece+row+specs+values.Proof.Cycle.{args-at, args-claims}
+use Rattle.printer.proofs.Readings.{within}
 
 returns : (t : ℕ) → lts.Need-returns (args-claims t) (args-at t) args.Post
 returns t c =

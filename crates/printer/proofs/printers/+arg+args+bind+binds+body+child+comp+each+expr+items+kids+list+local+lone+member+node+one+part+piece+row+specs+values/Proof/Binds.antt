@@ -4,7 +4,6 @@ use mathlib.Core.Path.{ap, _∙_}
 use native.Mathlib.Omega.{arith}
 use Rattle.items.proofs.Laws.{by}
 use Rattle.printer.specs.Print.{localOf}
-use Rattle.printer.specs.Reads.{within}
 use Rattle.printer.proofs.Walking.{survey-outlined, survey-foreign, outlined-whole, outlined-count}
 use Rattle.printer.proofs.Listing.{local-foreign}
 use Rattle.printer.proofs.Printed.{enclosed-reading, prints-binds}
@@ -12,6 +11,7 @@ use Rattle.items.specs.declared.Condition.the-variants.{Always}
 use Rattle.printer.proofs.printers.binds.Reads as binds
 use Rattle.printer.proofs.printers.+arg+args+bind+binds+body+child+comp+each+expr+items+kids+list+local+lone+member+node+one+part+piece+row+specs+values.Lts-binds as lts
 use Rattle.printer.proofs.printers.+arg+args+bind+binds+body+child+comp+each+expr+items+kids+list+local+lone+member+node+one+part+piece+row+specs+values.Proof.Cycle.{binds-at, binds-claims}
+use Rattle.printer.proofs.Readings.{within}
 
 returns : (t : ℕ) → lts.Need-returns (binds-claims t) (binds-at t) binds.Post
 returns t c =

@@ -2,13 +2,13 @@ use Prim.Native.Nat.{ℕ}
 use borrow.Author.Needs.{needs}
 use native.Mathlib.Omega.{arith}
 use Rattle.items.proofs.Laws.{by}
-use Rattle.printer.specs.Reads.{within}
 use Rattle.printer.proofs.Walking.{after-outlined, after-foreign, outlined-whole}
 use Rattle.printer.proofs.Listing.{specs-foreign}
 use Rattle.printer.proofs.Printed.{left-brace, right-brace, spec-reading, prints-comp}
 use Rattle.printer.proofs.printers.body.Reads as body
 use Rattle.printer.proofs.printers.+arg+args+bind+binds+body+child+comp+each+expr+items+kids+list+local+lone+member+node+one+part+piece+row+specs+values.Lts-body as lts
 use Rattle.printer.proofs.printers.+arg+args+bind+binds+body+child+comp+each+expr+items+kids+list+local+lone+member+node+one+part+piece+row+specs+values.Proof.Cycle.{body-at, body-claims}
+use Rattle.printer.proofs.Readings.{within}
 
 returns : (t : ℕ) → lts.Need-returns (body-claims t) (body-at t) body.Post
 returns t c =

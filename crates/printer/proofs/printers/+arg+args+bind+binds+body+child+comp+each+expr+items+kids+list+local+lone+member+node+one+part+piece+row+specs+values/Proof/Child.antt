@@ -2,12 +2,12 @@ use Prim.Native.Nat.{ℕ}
 use borrow.Author.Needs.{needs}
 use native.Mathlib.Omega.{arith}
 use Rattle.items.proofs.Laws.{_▸_, by}
-use Rattle.printer.specs.Under.{kid-at, kid-print}
 use Rattle.printer.proofs.Listing.{around-is}
 use Rattle.printer.proofs.Rowing.{kid-falls}
 use Rattle.printer.proofs.printers.child.Reads as child
 use Rattle.printer.proofs.printers.+arg+args+bind+binds+body+child+comp+each+expr+items+kids+list+local+lone+member+node+one+part+piece+row+specs+values.Lts-child as lts
 use Rattle.printer.proofs.printers.+arg+args+bind+binds+body+child+comp+each+expr+items+kids+list+local+lone+member+node+one+part+piece+row+specs+values.Proof.Cycle.{child-at, child-claims}
+use Rattle.printer.proofs.Under.{kid-at, kid-print}
 
 returns : (t : ℕ) → lts.Need-returns (child-claims t) (child-at t) child.Post
 returns t c =

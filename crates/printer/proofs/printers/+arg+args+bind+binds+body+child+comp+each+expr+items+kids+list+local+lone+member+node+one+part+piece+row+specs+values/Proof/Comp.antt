@@ -3,7 +3,6 @@ use borrow.Author.Needs.{needs}
 use mathlib.Core.Path.{_∙_}
 use native.Mathlib.Omega.{arith}
 use Rattle.items.proofs.Laws.{by}
-use Rattle.printer.specs.Reads.{within}
 use Rattle.printer.proofs.Walking.{survey-outlined, survey-foreign}
 use Rattle.printer.proofs.Looking.{first-has, ends-has, bounded-as}
 use Rattle.printer.proofs.Listing.{comp-foreign}
@@ -11,6 +10,7 @@ use Rattle.printer.proofs.Printed.{comp-lacks, member-reading}
 use Rattle.printer.proofs.printers.comp.Reads as comp
 use Rattle.printer.proofs.printers.+arg+args+bind+binds+body+child+comp+each+expr+items+kids+list+local+lone+member+node+one+part+piece+row+specs+values.Lts-comp as lts
 use Rattle.printer.proofs.printers.+arg+args+bind+binds+body+child+comp+each+expr+items+kids+list+local+lone+member+node+one+part+piece+row+specs+values.Proof.Cycle.{comp-at, comp-claims}
+use Rattle.printer.proofs.Readings.{within}
 
 returns : (t : ℕ) → lts.Need-returns (comp-claims t) (comp-at t) comp.Post
 returns t c = by (comp-lacks _ _ _ _ (c .before .before .before .first-of .ensures) (c .before .before .is-nothing .ensures) (c .before .if1 .taken)) (c .stop-at .ensures _ _)

@@ -109,11 +109,11 @@ use Rattle.printer.proofs.rows.kinds_wanted.Reads as kinds-wanted-reads
 use Rattle.printer.proofs.rows.row_of.Reads as row-of-reads
 use Rattle.printer.proofs.words.print_optional.Reads as print-optional-reads
 use Rattle.printer.proofs.words.print_word.Reads as print-word-reads
+use Rattle.printer.proofs.Under.{size}
 use Rattle.tree.proofs.access.end_at.Reads as end-at-reads
 use Rattle.tree.proofs.access.kind_at.Reads as kind-at-reads
 use Rattle.tree.proofs.class.is.Reads as is-reads
 use Rattle.tree.proofs.class.kinds_of.Reads as kinds-of-reads
-use Rattle.printer.specs.Under.{size}
 
 -- six times the elements under the node, and a rank: a printer that calls another at the same node has the higher one
 abbrev pub μ-arg : Measures 4 arg-kinds.ps ℕ

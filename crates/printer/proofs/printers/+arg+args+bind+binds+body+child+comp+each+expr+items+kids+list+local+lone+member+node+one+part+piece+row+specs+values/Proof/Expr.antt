@@ -2,12 +2,12 @@ use Prim.Native.Nat.{ℕ}
 use borrow.Author.Needs.{needs}
 use mathlib.Core.Path.{refl}
 use native.Mathlib.Omega.{arith}
-use Rattle.printer.specs.Reads.{within}
 use Rattle.printer.proofs.Looking.{first-has, none-has, ends-has, bounded-as}
 use Rattle.printer.proofs.Printed.{prints-expr}
 use Rattle.printer.proofs.printers.expr.Reads as expr
 use Rattle.printer.proofs.printers.+arg+args+bind+binds+body+child+comp+each+expr+items+kids+list+local+lone+member+node+one+part+piece+row+specs+values.Lts-expr as lts
 use Rattle.printer.proofs.printers.+arg+args+bind+binds+body+child+comp+each+expr+items+kids+list+local+lone+member+node+one+part+piece+row+specs+values.Proof.Cycle.{expr-at, expr-claims}
+use Rattle.printer.proofs.Readings.{within}
 
 returns : (t : ℕ) → lts.Need-returns (expr-claims t) (expr-at t) expr.Post
 returns t c =

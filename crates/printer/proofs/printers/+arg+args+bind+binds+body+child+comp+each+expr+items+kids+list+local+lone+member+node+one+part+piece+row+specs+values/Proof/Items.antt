@@ -2,11 +2,11 @@ use Prim.Native.Nat.{ℕ}
 use borrow.Author.Needs.{needs}
 use native.Mathlib.Omega.{arith}
 use Rattle.items.proofs.Laws.{by}
-use Rattle.printer.specs.Reads.{walks-first, items-walk}
 use Rattle.printer.proofs.Walking.{spans-as}
 use Rattle.printer.proofs.printers.items.Reads as items
 use Rattle.printer.proofs.printers.+arg+args+bind+binds+body+child+comp+each+expr+items+kids+list+local+lone+member+node+one+part+piece+row+specs+values.Lts-items as lts
 use Rattle.printer.proofs.printers.+arg+args+bind+binds+body+child+comp+each+expr+items+kids+list+local+lone+member+node+one+part+piece+row+specs+values.Proof.Cycle.{items-at, items-claims}
+use Rattle.printer.proofs.Readings.{walks-first, items-walk}
 
 returns : (t : ℕ) → lts.Need-returns (items-claims t) (items-at t) items.Post
 returns t c =

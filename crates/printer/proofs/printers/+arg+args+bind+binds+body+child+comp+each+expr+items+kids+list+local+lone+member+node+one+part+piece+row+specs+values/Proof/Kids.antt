@@ -3,10 +3,10 @@ use borrow.Author.Needs.{needs}
 use Rattle.printer.proofs.Walking.{walks-region, walks-less, Walking, walking-none, walking-more, walking-all}
 use Rattle.items.specs.Machine.{held}
 use Rattle.items.specs.Signal.{conditionTest}
-use Rattle.printer.specs.Reads.{walks-kid}
 use Rattle.printer.proofs.printers.kids.Reads as kids
 use Rattle.printer.proofs.printers.+arg+args+bind+binds+body+child+comp+each+expr+items+kids+list+local+lone+member+node+one+part+piece+row+specs+values.Lts-kids as lts
 use Rattle.printer.proofs.printers.+arg+args+bind+binds+body+child+comp+each+expr+items+kids+list+local+lone+member+node+one+part+piece+row+specs+values.Proof.Cycle.{kids-at, kids-claims}
+use Rattle.printer.proofs.Readings.{walks-kid}
 
 abbrev Inv-loop : lts.InvT-loop
 Inv-loop records₀ texts₀ image index i loose b style t w s₀ q₀ records texts s q = Walking image index i w loose b style (conditionTest t) s₀ (held records₀ texts₀ q₀) (held records texts q) s

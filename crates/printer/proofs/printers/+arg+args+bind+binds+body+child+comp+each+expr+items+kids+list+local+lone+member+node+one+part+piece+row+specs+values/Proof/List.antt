@@ -3,13 +3,13 @@ use borrow.Author.Needs.{needs}
 use mathlib.Core.Path.{_∙_}
 use native.Mathlib.Omega.{arith}
 use Rattle.items.proofs.Laws.{by}
-use Rattle.printer.specs.Reads.{within}
 use Rattle.printer.proofs.Walking.{survey-outlined, survey-foreign, outlined-whole}
 use Rattle.printer.proofs.Listing.{list-foreign}
 use Rattle.printer.proofs.Printed.{list-reading, prints-empty, prints-list}
 use Rattle.printer.proofs.printers.list.Reads as list
 use Rattle.printer.proofs.printers.+arg+args+bind+binds+body+child+comp+each+expr+items+kids+list+local+lone+member+node+one+part+piece+row+specs+values.Lts-list as lts
 use Rattle.printer.proofs.printers.+arg+args+bind+binds+body+child+comp+each+expr+items+kids+list+local+lone+member+node+one+part+piece+row+specs+values.Proof.Cycle.{list-at, list-claims}
+use Rattle.printer.proofs.Readings.{within}
 
 returns : (t : ℕ) → lts.Need-returns (list-claims t) (list-at t) list.Post
 returns t c =

@@ -3,14 +3,14 @@ use borrow.Author.Needs.{needs}
 use native.Mathlib.Omega.{arith}
 use Rattle.items.proofs.Laws.{_▸_, by}
 use Rattle.printer.specs.Rows.{words}
-use Rattle.printer.specs.Under.{kid-at, kid-print}
-use Rattle.printer.specs.Reads.{walks-first, walks-kid}
 use Rattle.printer.proofs.Rowing.{kid-falls}
 use Rattle.printer.proofs.Walking.{spans-as}
 use Rattle.printer.proofs.Single.{lone-there, lone-is}
 use Rattle.printer.proofs.printers.lone.Reads as lone
 use Rattle.printer.proofs.printers.+arg+args+bind+binds+body+child+comp+each+expr+items+kids+list+local+lone+member+node+one+part+piece+row+specs+values.Lts-lone as lts
 use Rattle.printer.proofs.printers.+arg+args+bind+binds+body+child+comp+each+expr+items+kids+list+local+lone+member+node+one+part+piece+row+specs+values.Proof.Cycle.{lone-at, lone-claims}
+use Rattle.printer.proofs.Under.{kid-at, kid-print}
+use Rattle.printer.proofs.Readings.{walks-first, walks-kid}
 
 returns : (t : ℕ) → lts.Need-returns (lone-claims t) (lone-at t) lone.Post
 unfolding words

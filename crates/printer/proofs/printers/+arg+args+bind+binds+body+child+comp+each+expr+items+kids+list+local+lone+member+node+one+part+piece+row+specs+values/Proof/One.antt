@@ -4,10 +4,10 @@ use Rattle.printer.proofs.Rowing.{class-tested, kid-falls, each-other, 
 use Rattle.items.proofs.Laws.{by, idle}
 use borrow.Author.Tests.{not-true, not-false}
 use native.Mathlib.Omega.{arith}
-use Rattle.printer.specs.Under.{kid-at}
 use Rattle.printer.proofs.printers.one.Reads as one
 use Rattle.printer.proofs.printers.+arg+args+bind+binds+body+child+comp+each+expr+items+kids+list+local+lone+member+node+one+part+piece+row+specs+values.Lts-one as lts
 use Rattle.printer.proofs.printers.+arg+args+bind+binds+body+child+comp+each+expr+items+kids+list+local+lone+member+node+one+part+piece+row+specs+values.Proof.Cycle.{one-at, one-claims}
+use Rattle.printer.proofs.Under.{kid-at}
 
 returns : (t : ℕ) → lts.Need-returns (one-claims t) (one-at t) one.Post
 returns t c =

@@ -5,10 +5,10 @@ use Rattle.items.proofs.Laws.{by}
 use mathlib.Core.Path.{ap}
 use native.Mathlib.Omega.{arith}
 use Rattle.tree.specs.Answer.{found}
-use Rattle.printer.specs.Under.{kid-at}
 use Rattle.printer.proofs.printers.part.Reads as part
 use Rattle.printer.proofs.printers.+arg+args+bind+binds+body+child+comp+each+expr+items+kids+list+local+lone+member+node+one+part+piece+row+specs+values.Lts-part as lts
 use Rattle.printer.proofs.printers.+arg+args+bind+binds+body+child+comp+each+expr+items+kids+list+local+lone+member+node+one+part+piece+row+specs+values.Proof.Cycle.{part-at, part-claims}
+use Rattle.printer.proofs.Under.{kid-at}
 
 returns : (t : ℕ) → lts.Need-returns (part-claims t) (part-at t) part.Post
 returns t c =

@@ -5,11 +5,11 @@ use Rattle.printer.proofs.Rowing.{kid-falls}
 use native.Mathlib.Omega.{arith}
 use Rattle.items.specs.Machine.{held}
 use Rattle.items.proofs.Laws.{by}
-use Rattle.printer.specs.Under.{kid-at}
-use Rattle.printer.specs.Reads.{walks-kid}
 use Rattle.printer.proofs.printers.values.Reads as values
 use Rattle.printer.proofs.printers.+arg+args+bind+binds+body+child+comp+each+expr+items+kids+list+local+lone+member+node+one+part+piece+row+specs+values.Lts-values as lts
 use Rattle.printer.proofs.printers.+arg+args+bind+binds+body+child+comp+each+expr+items+kids+list+local+lone+member+node+one+part+piece+row+specs+values.Proof.Cycle.{values-at, values-claims}
+use Rattle.printer.proofs.Under.{kid-at}
+use Rattle.printer.proofs.Readings.{walks-kid}
 
 abbrev Inv-loop : lts.InvT-loop
 Inv-loop records₀ texts₀ image index i z w s₀ q₀ records texts s q = Valuing image index i w (z .loose) (z .to) s₀ (held records₀ texts₀ q₀) (held records texts q) s
