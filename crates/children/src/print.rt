@@ -12,7 +12,7 @@ use tree::class::Kinds;
 use tree::class::is;
 use tree::class::kinds_of;
 ghost use mathlib.Core.List.{[], _∷_};
-ghost use Rattle.items.specs.Machine.{held, Prints, PrintsIn};
+ghost use Rattle.items.specs.Machine.{PrintsIn};
 ghost use Rattle.comments.specs.Place.{place};
 ghost use Rattle.tree.specs.Class.{allOf};
 ghost use Rattle.tree.specs.Index.{partAt, partsFrom, Region};

@@ -16,7 +16,7 @@ use Rattle.text.proofs.Lists.{and-true}
 use Rattle.items.specs.Item.{Item, text, newline, tab, say}
 use Rattle.items.specs.Machine.{Held, Prints, Says}
 use Rattle.items.proofs.Laws.{said, unsaid, Going, going-none, going-more, going-all}
-use Rattle.comments.specs.Comments.{Location, optional, singleLine, common, commonPadding, blockLines, immediate, unpadded, tabbed, oneLine, onOneLine, manyLines, blockOf, multiLine, pieces, comment}
+use Rattle.comments.specs.Comments.{Location, optional, singleLine, common, commonPadding, blockLines, immediate, unpadded, tabbed, oneLine, onOneLine, manyLines, blockOf, multiLine, errorItems, comment}
 use Rattle.comments.specs.Rows.{rows, FirstRow, isCut, Piece}
 use Rattle.comments.proofs.Walks.{row-step, rows-none}
 
@@ -51,34 +51,34 @@ no-cut true y h = absurd (false≢true h)
 no-cut false true h = absurd (false≢true h)
 no-cut false false h = (refl, refl)
 
-pieces-plain : (d u r : List ℕ) → all (λ b. not (isCut b)) u ≡ true → pieces d (u ++ r) ≡ pieces (d ++ u) r
-unfolding pieces all
+pieces-plain : (d u r : List ℕ) → all (λ b. not (isCut b)) u ≡ true → errorItems d (u ++ r) ≡ errorItems (d ++ u) r
+unfolding errorItems all
 pieces-plain d [] r h = rw append-nil
 pieces-plain d (b ∷ u) r h =
     let (p, q) = and-true (not (isCut b)) (all (λ b. not (isCut b)) u) h in
     let (x, y) = no-cut (eqb b 10) (eqb b 9) p in
-    rw (x, y) (pieces-plain (d ++ (b ∷ [])) u r q ∙ ap (λ (e : List ℕ). pieces e r) (append-assoc d (b ∷ []) u))
+    rw (x, y) (pieces-plain (d ++ (b ∷ [])) u r q ∙ ap (λ (e : List ℕ). errorItems e r) (append-assoc d (b ∷ []) u))
 
-pieces-cut : (u : List ℕ) (c : ℕ) (r : List ℕ) → isCut c ≡ true → pieces u (c ∷ r) ≡ text u ∷ cond (eqb c 10) newline tab ∷ pieces [] r
-unfolding pieces
+pieces-cut : (u : List ℕ) (c : ℕ) (r : List ℕ) → isCut c ≡ true → errorItems u (c ∷ r) ≡ text u ∷ cond (eqb c 10) newline tab ∷ errorItems [] r
+unfolding errorItems
 pieces-cut u c r h = go (eqb c 10) h
   where
-    go : (t : Bool) → (t || eqb c 9) ≡ true → cond t (text u ∷ newline ∷ pieces [] r) (cond (eqb c 9) (text u ∷ tab ∷ pieces [] r) (pieces (u ++ (c ∷ [])) r)) ≡ text u ∷ cond t newline tab ∷ pieces [] r
+    go : (t : Bool) → (t || eqb c 9) ≡ true → cond t (text u ∷ newline ∷ errorItems [] r) (cond (eqb c 9) (text u ∷ tab ∷ errorItems [] r) (errorItems (u ++ (c ∷ [])) r)) ≡ text u ∷ cond t newline tab ∷ errorItems [] r
     go true k = refl
     go false k = rw k
 
-pieces-end : (u : List ℕ) → 0 < length u → pieces u [] ≡ text u ∷ []
-unfolding pieces
+pieces-end : (u : List ℕ) → 0 < length u → errorItems u [] ≡ text u ∷ []
+unfolding errorItems
 pieces-end [] h = absurd (omega arith)
 pieces-end (b ∷ u) h = refl
 
 -- The pieces before `at` are printed; the next one ends at e.
 pub record Erring (s : List ℕ) (o a : Held) (at e : ℕ) : Type 0 where
-  pub going : Going (pieces [] s) (pieces [] (drop at s)) o a
+  pub going : Going (errorItems [] s) (errorItems [] (drop at s)) o a
   pub piece : Piece s at e
 
 pub erring-none : (s : List ℕ) (o : Held) (e : ℕ) → Piece s 0 e → Erring s o o 0 e
-erring-none s o e p = record { going = going-none (pieces [] s) o; piece = p }
+erring-none s o e p = record { going = going-none (errorItems [] s) o; piece = p }
 
 -- the text from `at` on is its piece and what stands behind that
 piece-split : {s : List ℕ} {at e : ℕ} → Piece s at e → drop at s ≡ take (e - at) (drop at s) ++ drop e s
@@ -92,21 +92,21 @@ erring-more {s} {o} {a} {b} {at} {e} k f r h y q p =
     let u = take (e - at) (drop at s) in
     let v : drop e s ≡ getD s e 0 ∷ drop k s = rw (q, add-one e) (drop-cons s e 0 h) in
     record {
-      going = going-more (r .going) (ap (pieces []) (piece-split (r .piece) ∙ ap (λ (t : List ℕ). u ++ t) v) ∙ pieces-plain [] u _ (r .piece .plain) ∙ pieces-cut u (getD s e 0) (drop k s) (r .piece .cut h)) y;
+      going = going-more (r .going) (ap (errorItems []) (piece-split (r .piece) ∙ ap (λ (t : List ℕ). u ++ t) v) ∙ pieces-plain [] u _ (r .piece .plain) ∙ pieces-cut u (getD s e 0) (drop k s) (r .piece .cut h)) y;
       piece = p;
     }
 
 module _ {s : List ℕ} {o a : Held} {at e : ℕ} (r : Erring s o a at e) (h : length s ≤ e) where
-  pub erring-last : {b : Held} → at < length s → Prints (say (text (take (length s - at) (drop at s)))) a b → Says (pieces [] s) o b
+  pub erring-last : {b : Held} → at < length s → Prints (say (text (take (length s - at) (drop at s)))) a b → Says (errorItems [] s) o b
   erring-last l y =
       let n : length s ≡ e = omega (arith, r .piece) in
       let u = take (e - at) (drop at s) in
       let d : drop e s ≡ [] = drop-of-length-le s h in
-      let g : pieces [] (drop at s) ≡ text u ∷ [] = ap (pieces []) (piece-split (r .piece)) ∙ pieces-plain [] u (drop e s) (r .piece .plain) ∙ ap (pieces u) d ∙ pieces-end u (rw (length-take-le (e - at) (drop at s) (rw length-drop (omega arith))) (omega arith)) in
+      let g : errorItems [] (drop at s) ≡ text u ∷ [] = ap (errorItems []) (piece-split (r .piece)) ∙ pieces-plain [] u (drop e s) (r .piece .plain) ∙ ap (errorItems u) d ∙ pieces-end u (rw (length-take-le (e - at) (drop at s) (rw length-drop (omega arith))) (omega arith)) in
       r .going .rest (same (sym g) (rw n at (said (text (take (length s - at) (drop at s))) y)))
 
-  pub erring-all : length s ≤ at → Says (pieces [] s) o a
-  unfolding pieces
+  pub erring-all : length s ≤ at → Says (errorItems [] s) o a
+  unfolding errorItems
   erring-all l = going-all (r .going) (rw (drop-of-length-le s l))
 
 -- TABS
@@ -292,6 +292,6 @@ module _ (s body b : List ℕ) (doc : Bool) (loc : Location) (h : body ≡ take 
 pub keyed : (j k : ℕ) (s : List ℕ) (loc : Location) → k ≡ j → comment j s loc ≡ comment k s loc
 keyed j k s loc e = ap (λ (n : ℕ). comment n s loc) (sym e)
 
-pub erroneous : (k : ℕ) (s : List ℕ) (loc : Location) → (k ≡ 64 → ⊥) → (k ≡ 65 → ⊥) → (k ≡ 66 → ⊥) → (k ≡ 67 → ⊥) → (k ≡ 68 → ⊥) → (k ≡ 69 → ⊥) → pieces [] s ≡ comment k s loc
+pub erroneous : (k : ℕ) (s : List ℕ) (loc : Location) → (k ≡ 64 → ⊥) → (k ≡ 65 → ⊥) → (k ≡ 66 → ⊥) → (k ≡ 67 → ⊥) → (k ≡ 68 → ⊥) → (k ≡ 69 → ⊥) → errorItems [] s ≡ comment k s loc
 unfolding comment
 erroneous k s loc a b c d e f = rw (ne-eqb k 64 a, ne-eqb k 65 b, ne-eqb k 66 c, ne-eqb k 67 d, ne-eqb k 68 e, ne-eqb k 69 f)

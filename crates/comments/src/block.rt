@@ -16,7 +16,7 @@ ghost use Prim.Native.Nat.{_-_};
 ghost use lib.ListN.{length, drop, take};
 ghost use Rattle.text.specs.Basic.{ascii};
 ghost use Rattle.items.specs.Item.{text, tab};
-ghost use Rattle.items.specs.Machine.{held, Says};
+ghost use Rattle.items.specs.Machine.{SaysIn};
 ghost use Rattle.comments.specs.Comments.{optional, tabbed, oneLine, unpadded, manyLines, onOneLine, blockOf, multiLine};
 ghost use Rattle.comments.specs.Place.{place};
 ghost use Rattle.comments.specs.Rows.{rows};
@@ -25,7 +25,7 @@ const TAB: u8 = 9;
 
 // A text of a doc comment.
 fn print_doc(records: &mut [u32], texts: &mut [u8], doc: bool, s: &[u8], p: Printed) -> Printed
-    ensures { λ r. ⌜ Says (optional doc (text (now (s .entry)))) (held (now (records .entry)) (now (texts .entry)) p) (held (now (records .exit)) (now (texts .exit)) r) ⌝ }
+    ensures { λ r. ⌜ SaysIn records texts p r (optional doc (text (now (s .entry)))) ⌝ }
 {
     if doc {
         items::print_text(records, texts, s, p)
@@ -36,7 +36,7 @@ fn print_doc(records: &mut [u32], texts: &mut [u8], doc: bool, s: &[u8], p: Prin
 
 // A tab that a line begins with: four spaces in a doc comment.
 fn print_tab(records: &mut [u32], texts: &mut [u8], doc: bool, p: Printed) -> Printed
-    ensures { λ r. ⌜ Says (cond doc (text (ascii "    ")) tab ∷ []) (held (now (records .entry)) (now (texts .entry)) p) (held (now (records .exit)) (now (texts .exit)) r) ⌝ }
+    ensures { λ r. ⌜ SaysIn records texts p r (cond doc (text (ascii "    ")) tab ∷ []) ⌝ }
 {
     if doc {
         items::print_text(records, texts, b"    ", p)
@@ -47,7 +47,7 @@ fn print_tab(records: &mut [u32], texts: &mut [u8], doc: bool, p: Printed) -> Pr
 
 // The tabs that a line begins with, and its text.
 fn print_tabbed(records: &mut [u32], texts: &mut [u8], doc: bool, l: &[u8], p: Printed) -> Printed
-    ensures { λ r. ⌜ Says (tabbed doc (now (l .entry))) (held (now (records .entry)) (now (texts .entry)) p) (held (now (records .exit)) (now (texts .exit)) r) ⌝ }
+    ensures { λ r. ⌜ SaysIn records texts p r (tabbed doc (now (l .entry))) ⌝ }
 {
     let mut q = p;
     let mut i = 0;
@@ -63,7 +63,7 @@ fn print_tabbed(records: &mut [u32], texts: &mut [u8], doc: bool, l: &[u8], p: P
 
 // A line of a comment over many lines.
 fn print_row(records: &mut [u32], texts: &mut [u8], doc: bool, l: &[u8], p: Printed) -> Printed
-    ensures { λ r. ⌜ Says (oneLine doc (now (l .entry))) (held (now (records .entry)) (now (texts .entry)) p) (held (now (records .exit)) (now (texts .exit)) r) ⌝ }
+    ensures { λ r. ⌜ SaysIn records texts p r (oneLine doc (now (l .entry))) ⌝ }
 {
     let a = print_doc(records, texts, doc, b" *", p);
     if l.len() == 0 {
@@ -84,7 +84,7 @@ fn print_rows(
     n: usize,
     p: Printed,
 ) -> Printed
-    ensures { λ r. ⌜ Says (flatten (map (oneLine doc) (map (drop n) (rows (now (s .entry)) i)))) (held (now (records .entry)) (now (texts .entry)) p) (held (now (records .exit)) (now (texts .exit)) r) ⌝ }
+    ensures { λ r. ⌜ SaysIn records texts p r (flatten (map (oneLine doc) (map (drop n) (rows (now (s .entry)) i)))) ⌝ }
 {
     let mut q = p;
     let mut j = i;
@@ -97,7 +97,7 @@ fn print_rows(
 
 // The lines of a comment that does not begin beside its opening, without their common padding.
 fn print_below(records: &mut [u32], texts: &mut [u8], doc: bool, s: &[u8], p: Printed) -> Printed
-    ensures { λ r. ⌜ Says (flatten (map (oneLine doc) (unpadded false (rows (now (s .entry)) 0)))) (held (now (records .entry)) (now (texts .entry)) p) (held (now (records .exit)) (now (texts .exit)) r) ⌝ }
+    ensures { λ r. ⌜ SaysIn records texts p r (flatten (map (oneLine doc) (unpadded false (rows (now (s .entry)) 0)))) ⌝ }
 {
     let n = common_length(s, row(s, 0), next_row(s, 0));
     print_rows(records, texts, doc, s, 0, n, p)
@@ -105,7 +105,7 @@ fn print_below(records: &mut [u32], texts: &mut [u8], doc: bool, s: &[u8], p: Pr
 
 // The lines of a comment that begins beside its opening: the first as it is, the others without their common padding.
 fn print_beside(records: &mut [u32], texts: &mut [u8], doc: bool, s: &[u8], p: Printed) -> Printed
-    ensures { λ r. ⌜ Says (flatten (map (oneLine doc) (unpadded true (rows (now (s .entry)) 0)))) (held (now (records .entry)) (now (texts .entry)) p) (held (now (records .exit)) (now (texts .exit)) r) ⌝ }
+    ensures { λ r. ⌜ SaysIn records texts p r (flatten (map (oneLine doc) (unpadded true (rows (now (s .entry)) 0)))) ⌝ }
 {
     let second = next_row(s, 0);
     let a = print_row(records, texts, doc, row(s, 0), p);
@@ -125,7 +125,7 @@ fn print_many(
     s: &[u8],
     p: Printed,
 ) -> Printed
-    ensures { λ r. ⌜ Says (manyLines doc (unpadded immediate (rows (now (s .entry)) 0))) (held (now (records .entry)) (now (texts .entry)) p) (held (now (records .exit)) (now (texts .exit)) r) ⌝ }
+    ensures { λ r. ⌜ SaysIn records texts p r (manyLines doc (unpadded immediate (rows (now (s .entry)) 0))) ⌝ }
 {
     let a = items::print_text(records, texts, b"/*", p);
     let b = print_doc(records, texts, doc, b"*", a);
@@ -144,7 +144,7 @@ fn print_between(
     s: &[u8],
     p: Printed,
 ) -> Printed
-    ensures { λ r. ⌜ Says (flatten (map (oneLine doc) (unpadded immediate (rows (now (s .entry)) 0)))) (held (now (records .entry)) (now (texts .entry)) p) (held (now (records .exit)) (now (texts .exit)) r) ⌝ }
+    ensures { λ r. ⌜ SaysIn records texts p r (flatten (map (oneLine doc) (unpadded immediate (rows (now (s .entry)) 0)))) ⌝ }
 {
     if immediate {
         print_beside(records, texts, doc, s, p)
@@ -161,7 +161,7 @@ fn print_one(
     loc: CommentLocation,
     p: Printed,
 ) -> Printed
-    ensures { λ r. ⌜ Says (onOneLine (now (s .entry)) (place loc)) (held (now (records .entry)) (now (texts .entry)) p) (held (now (records .exit)) (now (texts .exit)) r) ⌝ }
+    ensures { λ r. ⌜ SaysIn records texts p r (onOneLine (now (s .entry)) (place loc)) ⌝ }
 {
     let a = print_lead(records, texts, loc, p);
     let b = items::print_text(records, texts, b"/* ", a);
@@ -180,7 +180,7 @@ fn print_block(
     loc: CommentLocation,
     p: Printed,
 ) -> Printed
-    ensures { λ r. ⌜ Says (blockOf doc immediate (rows (now (s .entry)) 0) (place loc)) (held (now (records .entry)) (now (texts .entry)) p) (held (now (records .exit)) (now (texts .exit)) r) ⌝ }
+    ensures { λ r. ⌜ SaysIn records texts p r (blockOf doc immediate (rows (now (s .entry)) 0) (place loc)) ⌝ }
 {
     if doc {
         return print_many(records, texts, doc, immediate, s, p);
@@ -216,7 +216,7 @@ pub fn print_multi_line(
     loc: CommentLocation,
     p: Printed,
 ) -> Printed
-    ensures { λ r. ⌜ Says (multiLine (now (s .entry)) (place loc)) (held (now (records .entry)) (now (texts .entry)) p) (held (now (records .exit)) (now (texts .exit)) r) ⌝ }
+    ensures { λ r. ⌜ SaysIn records texts p r (multiLine (now (s .entry)) (place loc)) ⌝ }
 {
     let body = inside(s);
     let doc = text::starts_with(body, b"*");

@@ -4,9 +4,10 @@ mod plain;
 mod rows;
 
 use items::Printed;
+use numbers::kind;
 ghost use mathlib.Core.Path.{_≡_};
 ghost use Rattle.items.specs.Item.{says};
-ghost use Rattle.items.specs.Machine.{held, Prints, PrintsIn};
+ghost use Rattle.items.specs.Machine.{PrintsIn};
 ghost use Rattle.comments.specs.Comments.{inline, comment};
 ghost use Rattle.comments.specs.Place.{place};
 
@@ -20,19 +21,6 @@ pub enum CommentLocation {
     EndOfItems,
 }
 
-// `TriviaKind` in order; every other kind is a custom error.
-const WHITESPACE: u32 = 64;
-
-const MULTI_LINE_COMMENT: u32 = 65;
-
-const ERROR_COMMENT_TOO_SHORT: u32 = 66;
-
-const ERROR_COMMENT_UNTERMINATED: u32 = 67;
-
-const SINGLE_LINE_HASH_COMMENT: u32 = 68;
-
-const SINGLE_LINE_SLASH_COMMENT: u32 = 69;
-
 fn is_inline(loc: CommentLocation) -> bool
     ensures { λ r. ⌜ r ≡ inline (place loc) ⌝ }
 {
@@ -43,7 +31,7 @@ fn is_inline(loc: CommentLocation) -> bool
     }
 }
 
-// Prints a trivia token or a custom error, given its kind and its text.
+// Prints a trivia token, or a custom error, which is any other kind, given its kind and its text.
 pub fn format_comment(
     records: &mut [u32],
     texts: &mut [u8],
@@ -55,12 +43,12 @@ pub fn format_comment(
     ensures { λ r. ⌜ PrintsIn records texts p r (says (comment kind (now (s .entry)) (place loc))) ⌝ }
 {
     match kind {
-        WHITESPACE => p,
-        MULTI_LINE_COMMENT => block::print_multi_line(records, texts, s, loc, p),
-        ERROR_COMMENT_TOO_SHORT => items::print_text(records, texts, b"/*/", p),
-        ERROR_COMMENT_UNTERMINATED => items::print_text(records, texts, s, p),
-        SINGLE_LINE_HASH_COMMENT => plain::print_hash(records, texts, s, loc, p),
-        SINGLE_LINE_SLASH_COMMENT => plain::print_slash(records, texts, s, loc, p),
+        kind::WHITESPACE => p,
+        kind::MULTI_LINE_COMMENT => block::print_multi_line(records, texts, s, loc, p),
+        kind::ERROR_COMMENT_TOO_SHORT => items::print_text(records, texts, b"/*/", p),
+        kind::ERROR_COMMENT_UNTERMINATED => items::print_text(records, texts, s, p),
+        kind::SINGLE_LINE_HASH_COMMENT => plain::print_hash(records, texts, s, loc, p),
+        kind::SINGLE_LINE_SLASH_COMMENT => plain::print_slash(records, texts, s, loc, p),
         _ => plain::print_error(records, texts, s, p),
     }
 }

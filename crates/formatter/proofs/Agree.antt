@@ -10,9 +10,8 @@ use lib.Dec.{leb, eqb}
 use borrow.Author.Tests.{eq-eqb}
 use Rattle.text.specs.Basic.{ascii, isNil, sum, All, ∅, _▹_}
 use Rattle.text.proofs.Lists.{sum-append, all-append}
-use Rattle.items.specs.Item.{Test, lines, Item, text, newline, spaceOrNewline, tab, indent, outdent, mark, group, groupEnd, block, blockEnd, run, runEnd, again, ifTest, elseItem, endIf, Out, stop, ok, Print, after, next, _⨟_, none, say, says, stopped, lit, when, numbered, openRun, startingAt}
+use Rattle.items.specs.Item.{Test, lines, Item, text, newline, spaceOrNewline, tab, indent, outdent, mark, group, groupEnd, block, blockEnd, run, runEnd, again, ifTest, elseItem, endIf, Out, stop, ok, Print, after, next, _⨟_, none, say, says, stopped, lit, when, withNumber, openRun, startingAt, signal}
 use Rattle.items.specs.Role.{stays, role, isRun, isMark, runsOf, marksOf}
-use Rattle.items.specs.Signal.{signalItem}
 use Rattle.items.specs.declared.Signal.{Signal}
 use Rattle.items.proofs.Fits.{itemsOf}
 use Rattle.comments.specs.Comments.{Location, aboveItem, itemInline, endOfItems}
@@ -23,7 +22,7 @@ use Rattle.tree.specs.declared.class.Class.{Class}
 use Rattle.tree.specs.declared.class.Class.the-variants as Class
 use Rattle.children.specs.Reading
 use Rattle.children.specs.Comments.{comments}
-use Rattle.printer.specs.Layout.{What, txt, signal, part, opt, each, plus, Piece, asked, layout}
+use Rattle.printer.specs.Layout.{What, txt, bare, part, opt, each, plus, Piece, asked, layout}
 use Rattle.printer.specs.Combine
 use Rattle.printer.specs.Print
 use Rattle.formatter.proofs.Numbers.{numberIn, signal-sign}
@@ -183,7 +182,7 @@ text-still s = still (text s) refl refl ▹ ∅
 
 -- a list's brackets and marks, around one run
 brackets-agree : {j : ℕ} (a z : String) (p q : ℕ → Print) → ((k : ℕ) → Meets 2 0 k (p k k) (q k k)) → Agree j (Combine.bracketed a z p) (Combine.bracketed a z q)
-unfolding _⨟_ numbered lit say Combine.bracketed
+unfolding _⨟_ withNumber lit say Combine.bracketed
 brackets-agree a z p q h = record {
   at = λ k i.
       cancel (after-meets (still-fits (text-still (ascii a))) (after-meets (mark-fits (2 * k) k (omega arith)) (next-meets (h k)
@@ -256,8 +255,8 @@ then-meets : (k : ℕ) (p q : Print) {p′ q′ : Print} → Meets 2 0 k (p k) (
 unfolding _⨟_
 then-meets k p q h g = next-meets h (g .at)
 
-signal-agree : {j : ℕ} (x : Signal) → Agree j (say (signalItem x)) (say (signalItem x))
-signal-agree x = let g = signal-sign x in own-agree (signalItem x) (g .stay) (g .unnamed)
+signal-agree : {j : ℕ} (x : Signal) → Agree j (say (signal x)) (say (signal x))
+signal-agree x = let g = signal-sign x in own-agree (signal x) (g .stay) (g .unnamed)
 
 source-agree : {j : ℕ} (a b : Reading.Around) {p q : Print} → Agree j p q → Agree j (Print.sourceOf a b p) (Plain.whole a b q)
 unfolding Print.sourceOf Plain.whole
@@ -283,7 +282,7 @@ module _ (pr pr′ : ℕ → Print) (same : (n : ℕ) → Agree 0 (pr n) (pr′ 
   what-agree : (xs : List Part) (w : What) → Agree 0 (Print.what pr xs w) (Plain.piece pr′ xs w)
   unfolding Print.what Plain.piece
   what-agree xs (txt a) = lit-agree a
-  what-agree xs (signal x) = signal-agree x
+  what-agree xs (bare x) = signal-agree x
   what-agree xs (part w missing) = part-agree (lit-agree missing) (nth (w .class) (w .place) xs)
   what-agree xs (opt c) = part-agree none-agree (first c xs)
   what-agree xs (each c front ended) = each-agree c front ended xs

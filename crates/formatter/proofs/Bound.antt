@@ -12,9 +12,8 @@ use lib.ListN.{length, length-append}
 use borrow.Author.Tests.{leb-true, eqb-true, eq-eqb, ne-eqb}
 use Rattle.text.specs.Basic.{ascii, isNil, sum, All, ∅, _▹_}
 use Rattle.text.proofs.Lists.{and-true, sum-append}
-use Rattle.items.specs.Item.{Test, Item, text, newline, spaceOrNewline, indent, outdent, mark, group, groupEnd, block, blockEnd, run, runEnd, again, ifTest, elseItem, endIf, Out, stop, ok, Print, after, next, _⨟_, none, say, says, stopped, lit, when, numbered, openRun}
+use Rattle.items.specs.Item.{Test, Item, text, newline, spaceOrNewline, indent, outdent, mark, group, groupEnd, block, blockEnd, run, runEnd, again, ifTest, elseItem, endIf, Out, stop, ok, Print, after, next, _⨟_, none, say, says, stopped, lit, when, withNumber, openRun, signal}
 use Rattle.items.specs.Records.{bytesOf}
-use Rattle.items.specs.Signal.{signalItem}
 use Rattle.items.specs.declared.Signal.{Signal}
 use Rattle.items.proofs.Fits.{itemsOf}
 use Rattle.comments.specs.Comments.{Location, aboveItem, itemInline, endOfItems, comment}
@@ -26,7 +25,7 @@ use Rattle.children.specs.Reading
 use Rattle.children.specs.Reading.{Child, Ending, Around}
 use Rattle.children.specs.Comments.{comments}
 use Rattle.printer.specs.Combine
-use Rattle.printer.specs.Layout.{What, txt, signal, part, opt, each, plus, Piece, asked, layout, rows}
+use Rattle.printer.specs.Layout.{What, txt, bare, part, opt, each, plus, Piece, asked, layout, rows}
 use Rattle.printer.specs.Print
 use Rattle.formatter.proofs.Tests.{every, everyRow, within-all, class-all, layout-every}
 use Rattle.formatter.proofs.Numbers.{signal-sign}
@@ -94,7 +93,7 @@ and-is false = refl
 -- The units of a piece beside those of parts, and the parts that it may print.
 abbrev fee : What → ℕ
 fee (txt a) = 1
-fee (signal x) = 1
+fee (bare x) = 1
 fee (part w s) = 1
 fee (opt c) = 0
 fee (each c front ended) = 0
@@ -106,7 +105,7 @@ placed c (suc n) = late c
 
 abbrev picks : What → List Column
 picks (txt a) = []
-picks (signal x) = []
+picks (bare x) = []
 picks (part w s) = placed (w .class) (w .place) ∷ []
 picks (opt c) = early c ∷ []
 picks (each c front ended) = whole c ∷ []
@@ -119,7 +118,7 @@ placing c (suc (suc n)) = false
 
 abbrev sound : What → Bool
 sound (txt a) = short (ascii a)
-sound (signal x) = true
+sound (bare x) = true
 sound (part w s) = short (ascii s) && placing (w .class) (w .place)
 sound (opt c) = true
 sound (each c front ended) = short (ascii front) && within-all (ofKind c) roomy
@@ -232,9 +231,9 @@ module _ (m : Item → ℕ) (u : ℕ) (short-le : (x : Item) → short (bytesOf 
   by S true h g = h
   by S false h g = g
 
-  numbered-b : {n : ℕ} {p : ℕ → Print} → ((k : ℕ) → Bounded n (p k)) → Bounded n (numbered p)
-  unfolding numbered
-  numbered-b h = record { at = λ k. h k .at k }
+  with-number-b : {n : ℕ} {p : ℕ → Print} → ((k : ℕ) → Bounded n (p k)) → Bounded n (withNumber p)
+  unfolding withNumber
+  with-number-b h = record { at = λ k. h k .at k }
 
   -- what a part weighs as a comment
   abbrev half : Part → ℕ
@@ -277,7 +276,7 @@ module _ (m : Item → ℕ) (u : ℕ) (short-le : (x : Item) → short (bytesOf 
 
   bracketed-b : (a z : String) → Short a → Short z → {n : ℕ} (p : ℕ → Print) → ((k : ℕ) → Bounded n (p k)) → Bounded (n + 4 * u) (Combine.bracketed a z p)
   unfolding Combine.bracketed
-  bracketed-b a z sa sz p h = numbered-b (λ k. (lit-b a sa ⊕ say-b (mark (2 * k)) refl ⊕ h k ⊕ lit-b z sz ⊕ say-b (mark (2 * k + 1)) refl) ≼ omega arith)
+  bracketed-b a z sa sz p h = with-number-b (λ k. (lit-b a sa ⊕ say-b (mark (2 * k)) refl ⊕ h k ⊕ lit-b z sz ⊕ say-b (mark (2 * k + 1)) refl) ≼ omega arith)
 
   -- what a part weighs, where size n is the number of elements below the one with number n
   abbrev below : (ℕ → ℕ) → Part → ℕ
@@ -446,13 +445,13 @@ module _ (m : Item → ℕ) (u : ℕ) (short-le : (x : Item) → short (bytesOf 
     placed-b c (suc zero) h xs = second-nth W c 2 (λ k e. eqb-true k 2 (class-all c (λ j. eqb j 2) h k e)) xs fresh
     placed-b c (suc (suc n)) h xs = absurd (false≢true h)
 
-    signal-b : (x : Signal) → Bounded u (say (signalItem x))
-    signal-b x = say-b (signalItem x) refl
+    signal-b : (x : Signal) → Bounded u (say (signal x))
+    signal-b x = say-b (signal x) refl
 
     what-b : {xs : List Part} → All H xs → (w : What) → sound w ≡ true → Bounded (fee w * u + columns W (picks w) fresh xs) (Print.what pr xs w)
     unfolding columns sum Print.what
     what-b p (txt a) h = lit-b a h ≼ omega arith
-    what-b p (signal x) h = signal-b x ≼ omega arith
+    what-b p (bare x) h = signal-b x ≼ omega arith
     what-b {xs} p (part w missing) h = let (z, l) = and-true (short (ascii missing)) (placing (w .class) (w .place)) h in
         part-b (lit-b missing z) (nth-all H (w .class) (w .place) p) ≼ omega (arith, placed-b (w .class) (w .place) l xs)
     what-b {xs} p (opt c) h = part-b none-b (nth-all H c 0 p) ≼ omega (arith, early-nth W c xs fresh (fresh-unseen c))

@@ -5,7 +5,6 @@ use Prim.Native.Nat.{ℕ}
 use Rattle.items.specs.Item.{always, lines, Item, signal, text, newline, spaceOrNewline, tab, indent, outdent, mark, group, groupEnd, block, blockEnd, run, runEnd, again, ifTest, elseItem, endIf}
 use Rattle.items.specs.Role.{stays, role}
 use Rattle.items.specs.Records.{bytesOf}
-use Rattle.items.specs.Signal.{signalItem}
 use Rattle.items.specs.declared.Signal.{Signal}
 use Rattle.items.specs.declared.Signal.the-variants.{NewLine, SpaceOrNewLine, Tab, StartIndent, FinishIndent, StartGroup, FinishGroup, StartBlock, FinishBlock, Else, EndIf}
 
@@ -26,5 +25,5 @@ pub record Sign (x : Item) : Type 0 where
   pub unnamed : numberIn x ≡ 0
   pub untold : bytesOf x ≡ []
 
-pub signal-sign : (x : Signal) → Sign (signalItem x)
+pub signal-sign : (x : Signal) → Sign (signal x)
 signal-sign x = record { stay = refl; unnamed = refl; untold = refl }

@@ -6,8 +6,7 @@ use Prim.Native.Nat.{ℕ, suc, _*_}
 use Prim.Native.String.{String}
 use lib.Dec.{leb, eqb}
 use Rattle.text.specs.Basic.{ascii, isNil}
-use Rattle.items.specs.Item.{Test, lines, text, newline, indent, outdent, block, blockEnd, Print, _⨟_, none, say, stopped, lit, when, startingAt}
-use Rattle.items.specs.Signal.{signalItem}
+use Rattle.items.specs.Item.{Test, lines, text, newline, indent, outdent, block, blockEnd, Print, _⨟_, none, say, stopped, lit, when, startingAt, signal}
 use Rattle.comments.specs.Comments.{aboveItem, itemInline, endOfItems}
 use Rattle.tree.specs.Tree.{Forest, nil, tree, Part, texts, parts}
 use Rattle.tree.specs.declared.class.Class.{Class}
@@ -15,7 +14,7 @@ use Rattle.tree.specs.declared.class.Class.the-variants as Class
 use Rattle.tree.specs.Class.{is, nth, first, plusOf}
 use Rattle.children.specs.Reading.{Child, Ending, Reading, foreign, read, between, enclosed, compMembers, compSpecs, more, anyManyLines, isEmpty, Around, foreignAt, trivia, triviaBefore, triviaAfter}
 use Rattle.children.specs.Comments.{comments}
-use Rattle.printer.specs.Layout.{What, txt, signal, part, opt, each, plus, Piece, asked, layout}
+use Rattle.printer.specs.Layout.{What, txt, bare, part, opt, each, plus, Piece, asked, layout}
 use Rattle.printer.specs.Combine.{newlineIf, either, onlyIf, grouped, comma, separator, ending, testOf, bracketed}
 
 -- over many lines or on one: 'prints the body anew in each branch', from the same number
@@ -43,7 +42,7 @@ module _ (pr : ℕ → Print) where
   -- one piece of a row
   unfoldable pub piece : List Part → What → Print
   piece ps (txt a) = lit a
-  piece ps (signal x) = say (signalItem x)
+  piece ps (bare x) = say (signal x)
   piece ps (part w missing) = shown (lit missing) (nth (w .class) (w .place) ps)
   piece ps (opt c) = shown none (first c ps)
   piece ps (each c front ended) = allShown c front ended ps

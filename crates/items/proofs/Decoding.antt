@@ -8,33 +8,18 @@ use lib.ListN.{length, length-append}
 use lib.Seq.{drop-append-seam, take-append-seam}
 use borrow.Author.Tests.{le-leb}
 use Rattle.items.specs.Item.{always, lines, Item, signal, text, mark, run, runEnd, again, ifTest}
-use Rattle.items.specs.declared.Signal.{Signal}
-use Rattle.items.specs.declared.Signal.the-variants.{NewLine, SpaceOrNewLine, Tab, StartIndent, FinishIndent, StartGroup, FinishGroup, StartBlock, FinishBlock, Else, EndIf}
-use Rattle.items.specs.Records.{signalKind, recordOf, bytesOf, words, bytes, stored, itemOf, decoded}
+use Rattle.items.specs.Records.{recordOf, bytesOf, words, bytes, stored, itemOf, decoded, recordSize}
+use Rattle.items.proofs.Signals.{plain}
 
 stored-is : (p s r : List ℕ) → stored (p ++ (s ++ r)) (length p) (length s) ≡ some (text s)
 stored-is p s r =
     rw (le-leb (length p + length s) (length (p ++ (s ++ r))) (rw (length-append p (s ++ r), length-append s r) (omega arith)), drop-append-seam, take-append-seam) refl
 
-signal-is : (ts : List ℕ) (s : Signal) → itemOf ts (signalKind s) 0 0 ≡ some (signal s)
-unfolding itemOf
-signal-is ts NewLine = refl
-signal-is ts SpaceOrNewLine = refl
-signal-is ts Tab = refl
-signal-is ts StartIndent = refl
-signal-is ts FinishIndent = refl
-signal-is ts StartGroup = refl
-signal-is ts FinishGroup = refl
-signal-is ts StartBlock = refl
-signal-is ts FinishBlock = refl
-signal-is ts Else = refl
-signal-is ts EndIf = refl
-
 -- a record gives its item back
 record-is : (p r : List ℕ) (x : Item) → let w = recordOf (length p) x in itemOf (p ++ (bytesOf x ++ r)) (w .kind) (w .first) (w .second) ≡ some x
 unfolding itemOf
 record-is p r (text s) = stored-is p s r
-record-is p r (signal s) = signal-is (p ++ ([] ++ r)) s
+record-is p r (signal s) = plain s .decodes (p ++ ([] ++ r))
 record-is p r (mark m) = refl
 record-is p r (run m) = refl
 record-is p r (runEnd m) = refl
@@ -53,8 +38,8 @@ decoded-from p (x ∷ xs) ws ts =
 pub decoded-is : (xs : List Item) (ws ts : List ℕ) → decoded (words 0 xs ++ ws) (bytes xs ++ ts) (length xs) ≡ some xs
 decoded-is xs ws ts = decoded-from [] xs ws ts
 
--- a record takes three words
-pub words-length : (at : ℕ) (xs : List Item) → length (words at xs) ≡ 3 * length xs
+-- each record takes as many words
+pub words-length : (at : ℕ) (xs : List Item) → length (words at xs) ≡ recordSize * length xs
 unfolding words
 words-length at [] = refl
 words-length at (x ∷ xs) = omega (arith, words-length (at + length (bytesOf x)) xs)

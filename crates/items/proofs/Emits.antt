@@ -20,12 +20,9 @@ use Rattle.numbers.specs.declared.Mark.{Mark}
 use Rattle.items.specs.declared.Printed.{Printed}
 use Rattle.items.specs.declared.Printed.the-variants.{Done, Stopped, Full}
 use Rattle.items.specs.declared.Signal.{Signal}
-use Rattle.items.specs.declared.Signal.the-variants.{NewLine, SpaceOrNewLine, Tab, StartIndent, FinishIndent, StartGroup, FinishGroup, StartBlock, FinishBlock, Else, EndIf}
-use Rattle.items.specs.Item.{Item, text, mark, runEnd, again, ifTest, ok, Print, say, stopped, openRun}
-use Rattle.items.specs.Item.{run as item}
+use Rattle.items.specs.Item.{Item, text, mark, runEnd, again, ifTest, ok, Print, say, stopped, openRun, run as item, signal, conditionTest, signalKind}
 use Rattle.items.specs.Role.{role, isRun}
-use Rattle.items.specs.Records.{recordOf, bytesOf}
-use Rattle.items.specs.Signal.{signalItem, conditionTest}
+use Rattle.items.specs.Records.{bytesOf}
 use Rattle.items.specs.Machine.{State, store, counted, printable, emitted, emitAll, onward, reaching, finish, run, seen, held, Prints, nextRun}
 use Rattle.items.proofs.Lengths.{line-length}
 use Rattle.items.proofs.Laws.{Ended, stops, fills}
@@ -135,7 +132,7 @@ end-textless n = record { entry = λ at. refl; bytes = refl; runs = refl }
 pub again-textless : (n : ℕ) → Textless (entryOf 0 (again n)) (again n)
 again-textless n = record { entry = λ at. refl; bytes = refl; runs = refl }
 
-pub signal-textless : (s : Signal) → Textless (plainEntry (recordOf 0 (signalItem s) .kind) 0 0) (signalItem s)
+pub signal-textless : (s : Signal) → Textless (plainEntry (signalKind s) 0 0) (signal s)
 signal-textless s = record { entry = λ at. refl; bytes = refl; runs = refl }
 
 pub condition-textless : (t : Condition) → Textless (entryOf 0 (ifTest (conditionTest t))) (ifTest (conditionTest t))

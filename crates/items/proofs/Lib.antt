@@ -6,5 +6,7 @@ pub mod Fits
 pub mod Laws
 pub mod Lengths
 mod Lent
+mod Naming
 mod Numbers
+mod Signals
 mod Stores

@@ -4,6 +4,8 @@ use mathlib.Core.List.{List, [], _∷_, _++_}
 use Prim.Native.Nat.{ℕ, suc}
 use Prim.Native.String.{String}
 use Rattle.text.specs.Basic.{ascii}
+use Rattle.items.specs.declared.Condition.{Condition}
+use Rattle.items.specs.declared.Condition.the-variants.{Always, Lines}
 use Rattle.items.specs.declared.Signal.{Signal}
 use Rattle.items.specs.declared.Signal.the-variants.{NewLine, SpaceOrNewLine, Tab, StartIndent, FinishIndent, StartGroup, FinishGroup, StartBlock, FinishBlock, Else, EndIf}
 
@@ -12,13 +14,32 @@ pub data Test : Type 0 where
   always : Test
   lines : ℕ → Test
 
--- 'Records': the seventeen kinds in order, a text by its bytes.
+-- the test of a condition as the code has it
+abbrev pub conditionTest : Condition → Test
+conditionTest Always = always
+conditionTest (Lines m) = lines (m .0)
+
+-- 'Records': a text by its bytes, the eleven kinds without operands as one.
 pub data Item : Type 0 where
   text : List ℕ → Item
   signal : Signal → Item
   mark : ℕ → Item
   run runEnd again : ℕ → Item
   ifTest : Test → Item
+
+-- the kind of an item without operands: '2 newline' to '6 outdent', '8 group' to '11 block-end', '16 else', '17 end-if'
+abbrev pub signalKind : Signal → ℕ
+signalKind NewLine = 2
+signalKind SpaceOrNewLine = 3
+signalKind Tab = 4
+signalKind StartIndent = 5
+signalKind FinishIndent = 6
+signalKind StartGroup = 8
+signalKind FinishGroup = 9
+signalKind StartBlock = 10
+signalKind FinishBlock = 11
+signalKind Else = 16
+signalKind EndIf = 17
 
 -- the items without operands by their names
 abbrev pub newline : Item
@@ -104,8 +125,8 @@ when true p = p
 when false p = none
 
 -- a printing that knows the number of the list that it begins
-unfoldable pub numbered : (ℕ → Print) → Print
-numbered f k = f k k
+unfoldable pub withNumber : (ℕ → Print) → Print
+withNumber f k = f k k
 
 -- begins the run of the next list, and so takes its number
 unfoldable pub openRun : Print

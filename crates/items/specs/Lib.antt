@@ -1,9 +1,8 @@
--- Definitions that the contracts cite, and the laws that callers cite.
+-- Definitions that the contracts cite.
 pub mod Item
 pub mod Role
 pub mod Lines
 pub mod Names
 pub mod Records
-pub mod Signal
 pub mod Machine
 pub mod Entry

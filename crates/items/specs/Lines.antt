@@ -6,9 +6,8 @@ use Prim.Native.String.{String}
 use lib.Dec.{ltb}
 use lib.ListN.{length}
 use Rattle.text.specs.Basic.{ascii}
-use Rattle.items.specs.declared.Signal.{Signal}
-use Rattle.items.specs.declared.Signal.the-variants.{NewLine, SpaceOrNewLine, Tab, StartIndent, FinishIndent, StartGroup, FinishGroup, StartBlock, FinishBlock, Else, EndIf}
-use Rattle.items.specs.Item.{always, lines, Item, signal, text, newline, spaceOrNewline, tab, indent, outdent, mark, group, groupEnd, block, blockEnd, run, runEnd, again, ifTest, elseItem, endIf}
+use Rattle.text.specs.Words.{wordIn}
+use Rattle.items.specs.Item.{always, lines, Item, signal, text, newline, tab, indent, outdent, mark, group, block, run, runEnd, again, ifTest, signalKind}
 
 -- the decimal digits of n, where it has at most d + 1 of them
 unfoldable pub digits : ℕ → ℕ → List ℕ
@@ -23,24 +22,17 @@ decimal n = digits n n
 abbrev pub field : String → ℕ → List ℕ
 field s n = ascii s ++ (32 ∷ decimal n)
 
--- the name of an item without operands
-abbrev pub signalName : Signal → String
-signalName NewLine = "newline"
-signalName SpaceOrNewLine = "space-or-newline"
-signalName Tab = "tab"
-signalName StartIndent = "indent"
-signalName FinishIndent = "outdent"
-signalName StartGroup = "group"
-signalName FinishGroup = "group-end"
-signalName StartBlock = "block"
-signalName FinishBlock = "block-end"
-signalName Else = "else"
-signalName EndIf = "end-if"
+-- the names of the kinds of records by their numbers; no kind is 0, and a condition is listed with its test
+unfoldable pub kindNames : List String
+kindNames =
+    "" ∷ "text" ∷ "newline" ∷ "space-or-newline" ∷ "tab" ∷ "indent" ∷ "outdent" ∷ "mark" ∷ "group" ∷ "group-end" ∷ "block" ∷ "block-end" ∷ "run" ∷ "run-end"
+    ∷ "again" ∷ "if always" ∷ "else" ∷ "end-if"
+    ∷ []
 
 -- 'the kind's name as above, its operands (for text, the length and the text as stored; for if, `always` or `lines` and the mark)'
 unfoldable pub described : Item → List ℕ
 described (text s) = field "text" (length s) ++ (32 ∷ s)
-described (signal s) = ascii (signalName s)
+described (signal s) = ascii (wordIn kindNames (signalKind s))
 described (mark n) = field "mark" n
 described (run n) = field "run" n
 described (runEnd n) = field "run-end" n

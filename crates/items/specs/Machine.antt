@@ -4,18 +4,17 @@ use mathlib.Core.Bool.{Bool, cond}
 use mathlib.Core.Option.{Option, none, some}
 use mathlib.Core.List.{List, [], _∷_}
 use Prim.Native.Nat.{ℕ, _+_, _*_, _^_}
-use denote.Ref.{RefT}
-use denote.Triple.Both.{Both}
 use lib.Dec.{ltb}
 use lib.ListN.{length}
 use lib.Seq.{sets}
 use Rattle.text.specs.Basic.{all}
+use Rattle.text.specs.Lent.{Lent}
 use Rattle.items.specs.declared.Printed.{Printed}
 use Rattle.items.specs.declared.Printed.the-variants.{Done, Stopped, Full}
 use Rattle.items.specs.Item.{Item, Out, stop, ok, Print, says}
 use Rattle.items.specs.Role.{role, isRun, isMark}
 use Rattle.items.specs.Lines.{recordLine}
-use Rattle.items.specs.Records.{recordOf, bytesOf, Counts}
+use Rattle.items.specs.Records.{recordOf, bytesOf, Counts, recordSize}
 
 -- The lent buffers, and the counts of what was printed.
 pub record State : Type 0 where
@@ -27,9 +26,9 @@ pub record State : Type 0 where
 unfoldable pub store : List ℕ → ℕ → List ℕ → List ℕ
 store buffer at vs = sets buffer at vs
 
--- 'Three u32 each': a record at its place, the n-th from 0
+-- a record at its place, the n-th from 0
 abbrev pub storeRecord : List ℕ → ℕ → ℕ → ℕ → ℕ → List ℕ
-storeRecord buffer n kind first second = store buffer (3 * n) (kind ∷ first ∷ second ∷ [])
+storeRecord buffer n kind first second = store buffer (recordSize * n) (kind ∷ first ∷ second ∷ [])
 
 -- the counts after one record more, with so many text bytes, runs, marks and bytes of its line
 abbrev pub grown : Counts → ℕ → ℕ → ℕ → ℕ → Counts
@@ -133,10 +132,6 @@ pub record Prints (q : Print) (o a : Held) : Type 0 where
 -- The contract of a printer of items that take no number: printing xs takes o to a.
 pub record Says (xs : List Item) (o a : Held) : Type 0 where
   pub prints : Prints (says xs) o a
-
--- a slice lent to a call, at its entry and at its exit
-abbrev pub Lent : Type 0
-Lent = Both (RefT (List ℕ)) (RefT (List ℕ))
 
 -- what a printer that is lent the records and the texts is handed with p
 abbrev handed : Lent → Lent → Printed → Held

@@ -6,13 +6,15 @@ use Prim.Native.Nat.{ℕ, zero, suc, _+_}
 use lib.Dec.{leb, eqb}
 use lib.ListN.{length, drop, take}
 use Rattle.items.specs.declared.Count.{Count}
-use Rattle.items.specs.Item.{always, lines, Item, signal, text, newline, spaceOrNewline, tab, indent, outdent, mark, group, groupEnd, block, blockEnd, run, runEnd, again, ifTest, elseItem, endIf}
-use Rattle.items.specs.declared.Signal.{Signal}
-use Rattle.items.specs.declared.Signal.the-variants.{NewLine, SpaceOrNewLine, Tab, StartIndent, FinishIndent, StartGroup, FinishGroup, StartBlock, FinishBlock, Else, EndIf}
+use Rattle.items.specs.Item.{always, lines, Item, signal, text, newline, spaceOrNewline, tab, indent, outdent, mark, group, groupEnd, block, blockEnd, run, runEnd, again, ifTest, elseItem, endIf, signalKind}
 use Rattle.items.specs.Role.{runsOf, marksOf}
 use Rattle.items.specs.Lines.{recordLines}
 
--- 'Three u32 each: kind and two operands'
+-- 'Three u32 each': the words of a record
+abbrev pub recordSize : ℕ
+recordSize = 3
+
+-- 'kind and two operands'
 pub record Record : Type 0 where
   pub kind : ℕ
   pub first : ℕ
@@ -21,20 +23,6 @@ pub record Record : Type 0 where
 -- a record by its three numbers
 abbrev pub three : ℕ → ℕ → ℕ → Record
 three k a b = record { kind = k; first = a; second = b }
-
--- the kind of an item without operands
-abbrev pub signalKind : Signal → ℕ
-signalKind NewLine = 2
-signalKind SpaceOrNewLine = 3
-signalKind Tab = 4
-signalKind StartIndent = 5
-signalKind FinishIndent = 6
-signalKind StartGroup = 8
-signalKind FinishGroup = 9
-signalKind StartBlock = 10
-signalKind FinishBlock = 11
-signalKind Else = 16
-signalKind EndIf = 17
 
 -- an item's record, where its text would stand at this offset: '0 where unused'
 abbrev pub recordOf : ℕ → Item → Record
@@ -86,8 +74,8 @@ abbrev pub bare : Item → ℕ → ℕ → Option Item
 bare x a b = cond (eqb a 0 && eqb b 0) (some x) none
 
 -- an item with one operand
-abbrev pub numbered : (ℕ → Item) → ℕ → ℕ → Option Item
-numbered f a b = cond (eqb b 0) (some (f a)) none
+abbrev pub withOperand : (ℕ → Item) → ℕ → ℕ → Option Item
+withOperand f a b = cond (eqb b 0) (some (f a)) none
 
 -- a condition
 abbrev pub condition : ℕ → ℕ → Option Item
@@ -108,14 +96,14 @@ itemOf ts k a b =
     (cond (eqb k 4) (bare tab a b)
     (cond (eqb k 5) (bare indent a b)
     (cond (eqb k 6) (bare outdent a b)
-    (cond (eqb k 7) (numbered mark a b)
+    (cond (eqb k 7) (withOperand mark a b)
     (cond (eqb k 8) (bare group a b)
     (cond (eqb k 9) (bare groupEnd a b)
     (cond (eqb k 10) (bare block a b)
     (cond (eqb k 11) (bare blockEnd a b)
-    (cond (eqb k 12) (numbered run a b)
-    (cond (eqb k 13) (numbered runEnd a b)
-    (cond (eqb k 14) (numbered again a b)
+    (cond (eqb k 12) (withOperand run a b)
+    (cond (eqb k 13) (withOperand runEnd a b)
+    (cond (eqb k 14) (withOperand again a b)
     (cond (eqb k 15) (condition a b)
     (cond (eqb k 16) (bare elseItem a b)
     (cond (eqb k 17) (bare endIf a b)

@@ -1,16 +1,15 @@
 // Print items, written as records into lent buffers.
 pub mod lines;
+pub mod names;
 
 use numbers::Element;
 use numbers::Mark;
 use numbers::Run;
 ghost use mathlib.Core.Path.{_≡_};
 ghost use mathlib.Core.List.{List};
-ghost use Prim.Native.Nat.{ℕ, max};
-ghost use lib.ListN.{set};
-ghost use Rattle.items.specs.Item.{say, openRun, stopped, text, mark, runEnd, again, ifTest};
-ghost use Rattle.items.specs.Signal.{signalItem, conditionTest};
-ghost use Rattle.items.specs.Records.{recordOf};
+ghost use Prim.Native.Nat.{ℕ, max, _+_, _<_, _^_};
+ghost use lib.ListN.{length, set};
+ghost use Rattle.items.specs.Item.{say, openRun, stopped, text, signal, signalKind, conditionTest, mark, runEnd, again, ifTest};
 ghost use Rattle.items.specs.Machine.{held, Prints, PrintsIn, store, storeRecord, nextRun, noCounts};
 ghost use Rattle.items.specs.Entry.{Emitted, InRange, entryOf, grownWith, plainEntry, roomFor, storeEntry};
 ghost use Rattle.items.specs.declared.Printed.the-variants.{Done};
@@ -51,6 +50,9 @@ pub enum Condition {
     Always,
     Lines(Mark),
 }
+
+// The words of a record.
+pub const RECORD: usize = 3;
 
 // The kinds of records.
 pub const TEXT: u32 = 1;
@@ -134,11 +136,11 @@ fn put_word(buf: &mut [u32], at: usize, w: u32)
     }
 }
 
-// Stores a record at its place, as far as there is room. Only here is it known that a record has three words.
+// Stores a record at its place, as far as there is room.
 fn put_record(buf: &mut [u32], n: u32, kind: u32, first: u32, second: u32)
     ensures { λ _. ⌜ now (buf .exit) ≡ storeRecord (now (buf .entry)) n kind first second ⌝ }
 {
-    let at = 3 * (n as usize);
+    let at = RECORD * (n as usize);
     put_word(buf, at, kind);
     put_word(buf, at + 1, first);
     put_word(buf, at + 2, second);
@@ -154,13 +156,13 @@ pub fn put_byte(buf: &mut [u8], at: usize, b: u8)
 }
 
 // Stores the bytes of s from place at on, as far as there is room.
-fn put_bytes(buf: &mut [u8], at: u32, s: &[u8])
+pub fn put_bytes(buf: &mut [u8], at: usize, s: &[u8])
+    requires { ⌜ at + length (now s) < 2 ^ 64 ⌝ }
     ensures { λ _. ⌜ now (buf .exit) ≡ store (now (buf .entry)) at (now (s .entry)) ⌝ }
 {
-    let from = at as usize;
     let mut i = 0;
     while i < s.len() {
-        put_byte(buf, from + i, s[i]);
+        put_byte(buf, at + i, s[i]);
         i += 1;
     }
 }
@@ -276,7 +278,7 @@ pub fn print_text(records: &mut [u32], texts: &mut [u8], s: &[u8], p: Printed) -
     let Printed::Done(c) = p else {
         return p;
     };
-    put_bytes(texts, c.texts, s);
+    put_bytes(texts, c.texts as usize, s);
     let bytes = s.len() as u64;
     let e = Entry {
         kind: TEXT,
@@ -291,7 +293,7 @@ pub fn print_text(records: &mut [u32], texts: &mut [u8], s: &[u8], p: Printed) -
 
 // The kind of an item without operands.
 fn signal_kind(s: Signal) -> u32
-    ensures { λ r. ⌜ r ≡ recordOf 0 (signalItem s) .kind ⌝ }
+    ensures { λ r. ⌜ r ≡ signalKind s ⌝ }
 {
     match s {
         Signal::NewLine => NEW_LINE,
@@ -310,7 +312,7 @@ fn signal_kind(s: Signal) -> u32
 
 // Prints an item without operands.
 pub fn print_signal(records: &mut [u32], texts: &mut [u8], s: Signal, p: Printed) -> Printed
-    ensures { λ r. ⌜ PrintsIn records texts p r (say (signalItem s)) ⌝ }
+    ensures { λ r. ⌜ PrintsIn records texts p r (say (signal s)) ⌝ }
 {
     emit(records, plain(signal_kind(s), 0, 0), p)
 }

@@ -1,86 +1,20 @@
-// The lines that list records: their lengths, and where the names in them start.
+// The lengths of the lines that list records.
 use super::AGAIN;
 use super::IF;
 use super::MARK;
 use super::RUN;
 use super::TEXT;
+use super::names::IF_LINES;
+use super::names::Table;
+use super::names::name_length;
 ghost use mathlib.Core.Path.{_≡_};
 ghost use Prim.Native.Nat.{_<_};
 ghost use lib.ListN.{length};
-ghost use Rattle.text.specs.Basic.{ascii};
 ghost use Rattle.items.specs.Lines.{decimal, field};
-ghost use Rattle.items.specs.Names.{nameAt, startOf, numbered, describedLength, lineLength};
+ghost use Rattle.items.specs.Names.{nameAt, hasNumber, describedLength, lineLength};
 
 // The first operand of a condition on lines.
 pub const LINES: u32 = 1;
-
-// Names besides those of the kinds.
-pub const IF_LINES: u32 = 18;
-
-pub const RECORDS: u32 = 19;
-
-pub const TEXTS: u32 = 20;
-
-pub const RUNS: u32 = 21;
-
-pub const MARKS: u32 = 22;
-
-// All names.
-const NAMES: u32 = 23;
-
-// Where each name starts in the byte string of all names, and where the last one ends.
-const STARTS: [u8; 24] = [
-    0,
-    0,
-    4,
-    11,
-    27,
-    30,
-    36,
-    43,
-    47,
-    52,
-    61,
-    66,
-    75,
-    78,
-    85,
-    90,
-    99,
-    103,
-    109,
-    117,
-    124,
-    130,
-    135,
-    141,
-];
-
-// A place as a number.
-fn wide(x: u8) -> usize
-    ensures { λ r. ⌜ r ≡ x ⌝ }
-{
-    x as usize
-}
-
-// Where the name with a number starts, which is where the one before it ends.
-pub fn start_of(w: u32) -> usize
-    requires { ⌜ w < 24 ⌝ }
-    ensures { λ r. ⌜ r ≡ startOf w ⌝ }
-{
-    let at = w as usize;
-    wide(STARTS[at])
-}
-
-// The length of the name with a number.
-fn name_length(w: u32) -> u64
-    ensures { λ r. ⌜ r ≡ length (ascii (nameAt w)) ⌝ }
-{
-    if NAMES <= w {
-        return 0;
-    }
-    (start_of(w + 1) - start_of(w)) as u64
-}
 
 // How many digits a number below 10,000 has.
 fn few_digits(n: u32) -> u64
@@ -110,15 +44,15 @@ fn decimal_length(n: u32) -> u64
 }
 
 // The length of a name and a number.
-pub fn field_length(w: u32, n: u32) -> u64
-    ensures { λ r. ⌜ r ≡ length (field (nameAt w) n) ⌝ }
+pub fn field_length(t: Table, w: u32, n: u32) -> u64
+    ensures { λ r. ⌜ r ≡ length (field (nameAt t w) n) ⌝ }
 {
-    name_length(w) + 1 + decimal_length(n)
+    name_length(t, w) + 1 + decimal_length(n)
 }
 
 // The records of this kind have one number.
-pub fn is_numbered(kind: u32) -> bool
-    ensures { λ r. ⌜ r ≡ numbered kind ⌝ }
+pub fn has_number(kind: u32) -> bool
+    ensures { λ r. ⌜ r ≡ hasNumber kind ⌝ }
 {
     (kind == MARK) | ((RUN <= kind) & (kind <= AGAIN))
 }
@@ -128,15 +62,15 @@ fn described_length(kind: u32, first: u32, second: u32) -> u64
     ensures { λ r. ⌜ r ≡ describedLength kind first second ⌝ }
 {
     if kind == TEXT {
-        return field_length(TEXT, second) + 1 + second as u64;
+        return field_length(Table::Kinds, TEXT, second) + 1 + second as u64;
     }
     if (kind == IF) & (first == LINES) {
-        return field_length(IF_LINES, second);
+        return field_length(Table::Others, IF_LINES, second);
     }
-    if is_numbered(kind) {
-        return field_length(kind, first);
+    if has_number(kind) {
+        return field_length(Table::Kinds, kind, first);
     }
-    name_length(kind)
+    name_length(Table::Kinds, kind)
 }
 
 // The length of the line of record n.

@@ -12,7 +12,7 @@ use borrow.Author.Tests.{leb-true, eqb-true}
 use Rattle.text.specs.Basic.{within}
 use Rattle.text.proofs.Lists.{and-true}
 use Rattle.items.specs.Item.{always, lines, Item, text, newline, spaceOrNewline, tab, indent, outdent, mark, group, groupEnd, block, blockEnd, run, runEnd, again, ifTest, elseItem, endIf}
-use Rattle.items.specs.Records.{bare, numbered, condition, stored, itemOf}
+use Rattle.items.specs.Records.{bare, withOperand, condition, stored, itemOf}
 use Rattle.items.specs.Lines.{described}
 use Rattle.items.specs.Names.{names, nameAt}
 use Rattle.listing.specs.Shown.{storedText, shown, Readable}
@@ -44,7 +44,7 @@ module _ (ts : List ℕ) (k a b : ℕ) (x : Item) where
   lone : (j : ℕ) (y : Item) → within 2 17 j ≡ true → shown ts j a b ≡ described y → bare y a b ≡ some x → Shows ts j a b x
   lone j y h e r = only j y (eqb a 0 && eqb b 0) h e r
 
-  counting : (j : ℕ) (f : ℕ → Item) → within 2 17 j ≡ true → shown ts j a b ≡ described (f a) → numbered f a b ≡ some x → Shows ts j a b x
+  counting : (j : ℕ) (f : ℕ → Item) → within 2 17 j ≡ true → shown ts j a b ≡ described (f a) → withOperand f a b ≡ some x → Shows ts j a b x
   counting j f h e r = only j (f a) (eqb b 0) h e r
 
   text-shows : stored ts a b ≡ some x → Shows ts 1 a b x

@@ -9,7 +9,7 @@ use lib.ListN.{take, drop}
 use borrow.Author.Tests.{eq-eqb, ne-eqb}
 use Rattle.text.specs.Basic.{ascii}
 use Rattle.items.specs.Lines.{field}
-use Rattle.items.specs.Names.{nameAt, numbered}
+use Rattle.items.specs.Names.{nameAt, hasNumber}
 use Rattle.listing.specs.Shown.{storedText, shown}
 
 -- a text lies from its offset to its offset and length
@@ -25,10 +25,10 @@ module _ (ts : List ℕ) (k a b : ℕ) where
   unfolding shown
   shown-lines h e = rw (ne-eqb k 1 h, e)
 
-  pub shown-number : {r : Bool} → (k ≡ 1 → ⊥) → (eqb k 15 && eqb a 1) ≡ false → r ≡ numbered k → r ≡ true → shown ts k a b ≡ field (nameAt k) a
+  pub shown-number : {r : Bool} → (k ≡ 1 → ⊥) → (eqb k 15 && eqb a 1) ≡ false → r ≡ hasNumber k → r ≡ true → shown ts k a b ≡ field (nameAt k) a
   unfolding shown
   shown-number h e f g = rw (ne-eqb k 1 h, e, sym f ∙ g)
 
-  pub shown-name : {r : Bool} → (k ≡ 1 → ⊥) → (eqb k 15 && eqb a 1) ≡ false → r ≡ numbered k → r ≡ false → shown ts k a b ≡ ascii (nameAt k)
+  pub shown-name : {r : Bool} → (k ≡ 1 → ⊥) → (eqb k 15 && eqb a 1) ≡ false → r ≡ hasNumber k → r ≡ false → shown ts k a b ≡ ascii (nameAt k)
   unfolding shown
   shown-name h e f g = rw (ne-eqb k 1 h, e, sym f ∙ g)

@@ -7,7 +7,7 @@ use lib.Dec.{eqb}
 use lib.ListN.{length, getD, take, drop}
 use Rattle.text.specs.Basic.{ascii}
 use Rattle.items.specs.Lines.{decimal, field}
-use Rattle.items.specs.Names.{nameAt, numbered}
+use Rattle.items.specs.Names.{nameAt, hasNumber}
 
 -- 'for text, the length and the text as stored', by its offset and length
 unfoldable pub storedText : List ℕ → ℕ → ℕ → List ℕ
@@ -18,7 +18,7 @@ unfoldable pub shown : List ℕ → ℕ → ℕ → ℕ → List ℕ
 shown ts k a b =
     cond (eqb k 1) (storedText ts a b)
     (cond (eqb k 15 && eqb a 1) (field (nameAt 18) b)
-    (cond (numbered k) (field (nameAt k) a)
+    (cond (hasNumber k) (field (nameAt k) a)
     (ascii (nameAt k))))
 
 -- A record that can be shown: its kind is known, and a text lies in the text buffer.

@@ -1,4 +1,8 @@
-// The numbers of line marks, runs and elements, each of a type of its own, so that none is taken for another.
+// Numbers that several crates name, each in one place. Those of line marks, runs and elements have types of their own, so that
+// none is taken for another.
+pub mod kind;
+pub mod refusal;
+pub mod wide;
 
 // The number of a line mark: run k has the marks 2k and 2k + 1.
 pub struct Mark(pub u64);

@@ -3,15 +3,14 @@ use mathlib.Core.Path.{_≡_, ap}
 use mathlib.Core.Bool.{Bool, true, false}
 use mathlib.Core.List.{List}
 use Prim.Native.Nat.{ℕ, _*_}
-use Rattle.items.specs.Item.{Test, always, lines, mark, Print, say, lit, when}
+use Rattle.items.specs.Item.{Test, always, lines, mark, Print, say, lit, when, signal}
 use Rattle.items.specs.Machine.{Held, Prints}
 use Rattle.items.proofs.Laws.{idle}
 use Rattle.items.specs.declared.Signal.{Signal}
-use Rattle.items.specs.Signal.{signalItem}
 use Rattle.tree.specs.Tree.{Part}
 use Rattle.printer.specs.declared.lists.Style.{Style}
 use Rattle.printer.specs.Combine.{onlyIf, comma, testOf}
-use Rattle.printer.specs.Layout.{signal}
+use Rattle.printer.specs.Layout.{bare}
 use Rattle.printer.specs.Print.{what}
 use Rattle.printer.specs.Rows.{wordAt, whatOf}
 use Rattle.printer.specs.Lists.{onLine, behindIt}
@@ -68,6 +67,6 @@ module _ (pr : ℕ → Print) (ps : List Part) where
   unfolding what whatOf
   fixed-text w s e h = rw e h
 
-  pub fixed-signal : (k w s : ℕ) {x : Signal} {o a : Held} → ((w s : ℕ) → whatOf k w s ≡ signal x) → Prints (say (signalItem x)) o a → Prints (what pr ps (whatOf k w s)) o a
+  pub fixed-signal : (k w s : ℕ) {x : Signal} {o a : Held} → ((w s : ℕ) → whatOf k w s ≡ bare x) → Prints (say (signal x)) o a → Prints (what pr ps (whatOf k w s)) o a
   unfolding what
   fixed-signal k w s e h = rw (e w s) h

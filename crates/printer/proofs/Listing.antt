@@ -10,7 +10,7 @@ use lib.Dec.{eqb}
 use lib.ListN.{length}
 use borrow.Author.Tests.{ne-eqb}
 use Rattle.text.specs.Basic.{isNil}
-use Rattle.items.specs.Item.{Test, lines, newline, indent, outdent, mark, group, Print, _⨟_, none, say, stopped, lit, when, numbered}
+use Rattle.items.specs.Item.{Test, lines, newline, indent, outdent, mark, group, Print, _⨟_, none, say, stopped, lit, when, withNumber}
 use Rattle.tree.specs.Tree.{Part}
 use Rattle.tree.specs.Class.{numberOf}
 use Rattle.children.specs.declared.survey.Outline.{Outline}
@@ -75,9 +75,9 @@ module _ (pr : ℕ → Print) (a b z : String) {r : Reading} where
     list-empty h = rw (x .is, empty-is x, ← e, h)
 
     pub list-full : t ≡ false → list pr a b z r
-        ≡ numbered (λ k. let u = testOf (o .many || o .blank) k in openList b k u ⨟ (say group ⨟ (children pr (onLine Elements u) (behindIt Elements u) (kidsIn r) ⨟ closeList z k (endingOf index image o))))
+        ≡ withNumber (λ k. let u = testOf (o .many || o .blank) k in openList b k u ⨟ (say group ⨟ (children pr (onLine Elements u) (behindIt Elements u) (kidsIn r) ⨟ closeList z k (endingOf index image o))))
     unfolding list bracketed onLine behindIt kidsIn
-    list-full h = rw (x .is, empty-is x, ← e, h) (ap numbered (λ i k. step k i))
+    list-full h = rw (x .is, empty-is x, ← e, h) (ap withNumber (λ i k. step k i))
       where
         step : (k : ℕ) → (lit b ⨟ (say (mark (2 * k)) ⨟ (indented k (testOf (anyManyLines (x .kids) || x .ending .blankLine) k) (grouped (children pr (λ m. comma m (testOf (anyManyLines (x .kids) || x .ending .blankLine) k)) (λ m. separator (testOf (anyManyLines (x .kids) || x .ending .blankLine) k)) (x .kids))) (x .ending) ⨟ (lit z ⨟ say (mark (2 * k + 1))))))
             ≡ openList b k (testOf (o .many || o .blank) k) ⨟ (say group ⨟ (children pr (λ m. comma m (testOf (o .many || o .blank) k)) (λ m. separator (testOf (o .many || o .blank) k)) (kidsIn (read (x .kids) (x .ending))) ⨟ closeList z k (endingOf index image o)))
@@ -91,9 +91,9 @@ module _ (pr : ℕ → Print) {r : Reading} where
   args-foreign e = rw e
 
   pub args-full : {index image : List ℕ} {o : Outline} → Outlined index image r o
-      → arguments pr r ≡ numbered (λ k. let u = testOf false k in openList "(" k u ⨟ (children pr (onLine Arguments u) (behindIt Arguments u) (kidsIn r) ⨟ closeArguments ")" k (endingOf index image o)))
+      → arguments pr r ≡ withNumber (λ k. let u = testOf false k in openList "(" k u ⨟ (children pr (onLine Arguments u) (behindIt Arguments u) (kidsIn r) ⨟ closeArguments ")" k (endingOf index image o)))
   unfolding arguments bracketed onLine behindIt testOf kidsIn
-  args-full {index} {image} {o} x = rw (x .is) (ap numbered (λ i k. step k i))
+  args-full {index} {image} {o} x = rw (x .is) (ap withNumber (λ i k. step k i))
     where
       step : (k : ℕ) → (lit "(" ⨟ (say (mark (2 * k)) ⨟ ((shared k (lines (2 * k)) (grouped (children pr (λ m. comma m (lines (2 * k))) (λ m. when m (separator (lines (2 * k)))) (x .kids))) (say newline) none ⨟ ending (x .ending)) ⨟ (lit ")" ⨟ say (mark (2 * k + 1))))))
           ≡ openList "(" k (lines (2 * k)) ⨟ (children pr (λ m. comma m (lines (2 * k))) (λ m. when m (separator (lines (2 * k)))) (x .kids) ⨟ closeArguments ")" k (endingOf index image o))
@@ -119,10 +119,10 @@ module _ (pr : ℕ → Print) (ps : List Part) where
     specs-foreign h = rw (x .is, e, h)
 
     pub comp-full : {o : Outline} → Outlined index image q o
-        → compOf pr ps r ≡ numbered (λ k. let u = testOf (m .many || (o .many || (m .blank || o .blank))) k in
+        → compOf pr ps r ≡ withNumber (λ k. let u = testOf (m .many || (o .many || (m .blank || o .blank))) k in
         openList "{" k u ⨟ (say group ⨟ (children pr (onLine Members u) (behindIt Members u) (kidsIn r) ⨟ (newlineIf (m .blank) ⨟ (children pr (onLine Specs u) (behindIt Specs u) (kidsIn q) ⨟ closeList "}" k (endingOf index image o))))))
     unfolding compOf compBody bracketed onLine behindIt kidsIn
-    comp-full {o} y = rw (x .is, e, y .is) (ap numbered (λ i k. step k i))
+    comp-full {o} y = rw (x .is, e, y .is) (ap withNumber (λ i k. step k i))
       where
         test : ℕ → Test
         test k = testOf (anyManyLines (x .kids) || (anyManyLines (y .kids) || (x .ending .blankLine || y .ending .blankLine))) k

@@ -10,8 +10,7 @@ use lib.Dec.{eqb}
 use Rattle.text.specs.Basic.{isNil, present, orElse}
 use Rattle.items.specs.declared.Printed.{Printed}
 use Rattle.items.specs.declared.Condition.{Condition}
-use Rattle.items.specs.Item.{newline, indent, outdent, group, Print, _⨟_, say, stopped, lit}
-use Rattle.items.specs.Signal.{conditionTest}
+use Rattle.items.specs.Item.{newline, indent, outdent, group, Print, _⨟_, say, stopped, lit, conditionTest}
 use Rattle.items.specs.Machine.{Held, held, Prints, nextRun}
 use Rattle.items.proofs.Laws.{by, _▸_, numbers}
 use Rattle.tree.specs.Tree.{Part}

@@ -2,7 +2,7 @@
 use mathlib.Core.Bool.{Bool, true, false}
 use Prim.Native.Nat.{ℕ, _+_, _*_}
 use Prim.Native.String.{String}
-use Rattle.items.specs.Item.{Test, always, lines, newline, spaceOrNewline, mark, group, groupEnd, ifTest, elseItem, endIf, Print, _⨟_, say, lit, when, numbered}
+use Rattle.items.specs.Item.{Test, always, lines, newline, spaceOrNewline, mark, group, groupEnd, ifTest, elseItem, endIf, Print, _⨟_, say, lit, when, withNumber}
 use Rattle.comments.specs.Comments.{endOfItems}
 use Rattle.children.specs.Comments.{comments}
 use Rattle.children.specs.Reading.{Ending}
@@ -43,4 +43,4 @@ testOf false k = lines (2 * k)
 
 -- a list in its brackets: 'The k-th list that makes line marks, from 0 in printing order, has marks 2k and 2k+1'
 unfoldable pub bracketed : String → String → (ℕ → Print) → Print
-bracketed a z p = numbered λ k. lit a ⨟ say (mark (2 * k)) ⨟ p k ⨟ lit z ⨟ say (mark (2 * k + 1))
+bracketed a z p = withNumber λ k. lit a ⨟ say (mark (2 * k)) ⨟ p k ⨟ lit z ⨟ say (mark (2 * k + 1))

@@ -20,7 +20,7 @@ pub record Want : Type 0 where
 -- What a piece prints.
 pub data What : Type 0 where
   txt : String → What  -- a text of the formatter's own: str(..)
-  signal : Signal → What  -- a newline, an indent or an outdent
+  bare : Signal → What  -- a newline, an indent or an outdent
   part : Want → String → What  -- what the part prints, or the text that says what is missing
   opt : Class → What  -- what the first part of the class prints, if there is one
   each : Class → String → Bool → What  -- all parts of the class: each behind a text, and in front of a comma and a newline if so asked
@@ -66,15 +66,15 @@ maybe c = always (opt c)
 
 -- nl
 abbrev pub nl : Piece
-nl = always (signal NewLine)
+nl = always (bare NewLine)
 
 -- >i
 abbrev pub deeper : Piece
-deeper = always (signal StartIndent)
+deeper = always (bare StartIndent)
 
 -- <i
 abbrev pub back : Piece
-back = always (signal FinishIndent)
+back = always (bare FinishIndent)
 
 -- the parts that many rows name: 'An absent part prints `/*missing Expr*/` and so on'
 abbrev pub expr : Piece

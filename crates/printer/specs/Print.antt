@@ -6,17 +6,16 @@ use Prim.Native.Nat.{ℕ, _*_}
 use Prim.Native.String.{String}
 use lib.Dec.{leb, eqb}
 use Rattle.text.specs.Basic.{ascii, isNil}
-use Rattle.items.specs.Item.{Test, lines, text, newline, indent, outdent, block, blockEnd, runEnd, again, Print, _⨟_, none, say, stopped, lit, when, openRun}
+use Rattle.items.specs.Item.{Test, lines, text, newline, indent, outdent, block, blockEnd, runEnd, again, Print, _⨟_, none, say, stopped, lit, when, openRun, signal}
 use Rattle.printer.specs.Combine.{newlineIf, either, onlyIf, grouped, comma, separator, ending, testOf, bracketed}
 use Rattle.comments.specs.Comments.{aboveItem, itemInline, endOfItems}
 use Rattle.tree.specs.Tree.{Forest, nil, tree, Part, texts, parts}
 use Rattle.tree.specs.declared.class.Class.{Class}
 use Rattle.tree.specs.declared.class.Class.the-variants as Class
 use Rattle.tree.specs.Class.{is, nth, first, plusOf}
-use Rattle.items.specs.Signal.{signalItem}
 use Rattle.children.specs.Comments.{comments}
 use Rattle.children.specs.Reading.{Child, Ending, Reading, foreign, read, between, enclosed, compMembers, compSpecs, more, anyManyLines, isEmpty, Around, foreignAt, trivia, triviaBefore, triviaAfter}
-use Rattle.printer.specs.Layout.{What, txt, signal, part, opt, each, plus, Piece, asked, layout}
+use Rattle.printer.specs.Layout.{What, txt, bare, part, opt, each, plus, Piece, asked, layout}
 
 -- a list's body, in full where the test holds and as `again` where not: 'its body stands once, in the first branch, and as `again` in the second'
 unfoldable pub shared : ℕ → Test → Print → Print → Print → Print
@@ -49,7 +48,7 @@ module _ (pr : ℕ → Print) where
   -- one piece of a row, for a node with these parts
   unfoldable pub what : List Part → What → Print
   what ps (txt a) = lit a
-  what ps (signal x) = say (signalItem x)
+  what ps (bare x) = say (signal x)
   what ps (part w missing) = partOr (lit missing) (nth (w .class) (w .place) ps)
   what ps (opt c) = partOr none (first c ps)
   what ps (each c front ended) = eachOf c front ended ps

@@ -12,7 +12,7 @@ use Rattle.items.specs.Item.{Print, none, lit}
 use Rattle.tree.specs.declared.class.Class.the-variants as Class
 use Rattle.printer.specs.declared.rows.Entry.{Entry}
 use Rattle.printer.specs.declared.rows.Extent.{Extent}
-use Rattle.printer.specs.Layout.{Want, What, txt, signal, part, opt, each, plus, Piece, Row, first, second, t, rows, layout}
+use Rattle.printer.specs.Layout.{Want, What, txt, bare, part, opt, each, plus, Piece, Row, first, second, t, rows, layout}
 
 -- the texts of the formatter's own, by their numbers
 unfoldable pub words : List String
@@ -69,9 +69,9 @@ wanted w = cond (eqb w 0) [] (wantAt w ∷ [])
 unfoldable pub whatOf : ℕ → ℕ → ℕ → What
 whatOf k w s =
     cond (eqb k 0) (txt (wordAt s))
-    (cond (eqb k 1) (signal NewLine)
-    (cond (eqb k 2) (signal StartIndent)
-    (cond (eqb k 3) (signal FinishIndent)
+    (cond (eqb k 1) (bare NewLine)
+    (cond (eqb k 2) (bare StartIndent)
+    (cond (eqb k 3) (bare FinishIndent)
     (cond (eqb k 4) (cond (eqb s 0) (opt (wantAt w .class)) (part (wantAt w) (wordAt s)))
     (cond (eqb k 5) (each (wantAt w .class) (wordAt s) false)
     (cond (eqb k 6) (each (wantAt w .class) (wordAt s) true)

@@ -22,7 +22,7 @@ use tree::Found;
 use tree::access::end_at;
 use tree::class::Class;
 ghost use Rattle.items.specs.Item.{newline, _⨟_, say, lit};
-ghost use Rattle.items.specs.Machine.{held, Prints, PrintsIn};
+ghost use Rattle.items.specs.Machine.{PrintsIn};
 ghost use Rattle.comments.specs.Comments.{aboveItem, endOfItems};
 ghost use Rattle.tree.specs.Tree.{treeOf};
 ghost use Rattle.tree.specs.Answer.{found};

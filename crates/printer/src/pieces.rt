@@ -12,9 +12,9 @@ ghost use mathlib.Core.Path.{_≡_};
 ghost use mathlib.Core.List.{List};
 ghost use Prim.Native.Nat.{ℕ, _<_};
 ghost use Rattle.items.specs.Item.{newline, Print, _⨟_, say, lit, when};
-ghost use Rattle.items.specs.Machine.{held, Prints, PrintsIn};
+ghost use Rattle.items.specs.Machine.{PrintsIn};
 ghost use Rattle.tree.specs.Tree.{Part};
-ghost use Rattle.printer.specs.Layout.{signal};
+ghost use Rattle.printer.specs.Layout.{bare};
 ghost use Rattle.printer.specs.Rows.{whatOf};
 ghost use Rattle.printer.specs.Print.{what};
 
@@ -22,7 +22,7 @@ ghost use Rattle.printer.specs.Print.{what};
 fn signal_of(what: u32) -> Signal
     requires { ⌜ 0 < what ⌝ }
     requires { ⌜ what < 4 ⌝ }
-    ensures { λ r. ⌜ ((w s : ℕ) → whatOf what w s ≡ signal r) ⌝ }
+    ensures { λ r. ⌜ ((w s : ℕ) → whatOf what w s ≡ bare r) ⌝ }
 {
     match what {
         NEW_LINE => Signal::NewLine,

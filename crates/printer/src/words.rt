@@ -4,7 +4,7 @@ use items::print_text;
 ghost use mathlib.Core.Path.{_≡_};
 ghost use Prim.Native.Nat.{_<_};
 ghost use Rattle.items.specs.Item.{lit};
-ghost use Rattle.items.specs.Machine.{held, Prints, PrintsIn};
+ghost use Rattle.items.specs.Machine.{PrintsIn};
 ghost use Rattle.printer.specs.Rows.{wordAt, startOf, wordOrNone};
 
 pub const COMMA: u32 = 1;

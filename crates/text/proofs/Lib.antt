@@ -12,3 +12,4 @@ mod Trimming
 mod Walking
 mod WhiteRule
 mod WhiteSpace
+pub mod Words

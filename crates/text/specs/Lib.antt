@@ -3,3 +3,5 @@ pub mod Basic
 pub mod Text
 pub mod Owed
 pub mod Places
+pub mod Words
+pub mod Lent

@@ -10,6 +10,7 @@ print-text-spec =
     (tie.spec
     (λ c. search needs)  -- enum-known-p
     (λ c. passed _ (ended _ (c .match .keys2)))  -- returns
+    (λ c. search needs)  -- cast-put-bytes
     (λ c κs. search needs)  -- put-bytes-requires
     (λ c. search needs)  -- cast-t12
     (λ c κs. search needs)  -- emit-requires

@@ -6,10 +6,10 @@ use Rattle.items.proofs.put_bytes.Statement.{statement}
 use Rattle.items.proofs.put_bytes.Tie as tie
 
 abbrev Inv-loop : tie.InvT-loop
-Inv-loop buf₀ at s from i₀ buf i = Storing buf₀ at s buf i
+Inv-loop buf₀ at s i₀ buf i = Storing buf₀ at s buf i
 
 abbrev μ-loop : tie.MeasureT-loop
-μ-loop buf₀ at s from i₀ buf i = length s - i
+μ-loop buf₀ at s i₀ buf i = length s - i
 
 pub put-bytes-spec : {M : Type 1} → statement M
 put-bytes-spec =

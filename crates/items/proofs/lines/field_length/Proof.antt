@@ -15,8 +15,8 @@ field-length-spec =
     tie.close
     (tie.spec
     (λ c κs. search needs)  -- name-length-requires
-    (λ c. omega (arith, c .name-length .ensures, name-short (c .before .args .w)))  -- add-result
+    (λ c. omega (arith, c .name-length .ensures, name-short (c .before .args .t) (c .before .args .w)))  -- add-result
     (λ c κs. search needs)  -- decimal-length-requires
-    (λ c. omega (arith, c .decimal-length .ensures, c .before .name-length .ensures, name-short (c .before .before .args .w), decimal-short (c .before .before .args .n) (omega arith)))  -- add-result-2
-    (λ c. omega (arith, c .decimal-length .ensures, c .before .name-length .ensures, length-append (ascii (nameAt (c .before .before .args .w))) (32 ∷ decimal (c .before .before .args .n))))  -- returns
+    (λ c. omega (arith, c .decimal-length .ensures, c .before .name-length .ensures, name-short (c .before .before .args .t) (c .before .before .args .w), decimal-short (c .before .before .args .n) (omega arith)))  -- add-result-2
+    (λ c. omega (arith, c .decimal-length .ensures, c .before .name-length .ensures, length-append (ascii (nameAt (c .before .before .args .t) (c .before .before .args .w))) (32 ∷ decimal (c .before .before .args .n))))  -- returns
     )

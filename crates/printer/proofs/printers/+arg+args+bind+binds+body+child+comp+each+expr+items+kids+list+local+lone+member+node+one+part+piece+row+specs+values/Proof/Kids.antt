@@ -2,7 +2,7 @@ use Prim.Native.Nat.{ℕ, _-_}
 use borrow.Author.Needs.{needs}
 use Rattle.printer.proofs.Walking.{walks-region, walks-less, Walking, walking-none, walking-more, walking-all}
 use Rattle.items.specs.Machine.{held}
-use Rattle.items.specs.Signal.{conditionTest}
+use Rattle.items.specs.Item.{conditionTest}
 use Rattle.printer.proofs.printers.kids.Reads as kids
 use Rattle.printer.proofs.printers.+arg+args+bind+binds+body+child+comp+each+expr+items+kids+list+local+lone+member+node+one+part+piece+row+specs+values.Lts-kids as lts
 use Rattle.printer.proofs.printers.+arg+args+bind+binds+body+child+comp+each+expr+items+kids+list+local+lone+member+node+one+part+piece+row+specs+values.Proof.Cycle.{kids-at, kids-claims}
