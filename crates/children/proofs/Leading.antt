@@ -20,16 +20,16 @@ use Rattle.children.proofs.Stretch.{jumps-next}
 use Rattle.children.proofs.Widening.{widen-none, widen-both}
 
 -- The first gap so far.
-pub record Leading (index text : List ℕ) (w : Kinds) (loose : Bool) (from b j : ℕ) : Type 0 where
-  pub region : Region index text j b
+pub record Leading (index image : List ℕ) (w : Kinds) (loose : Bool) (from b j : ℕ) : Type 0 where
+  pub region : Region image index j b
   pub done : Jumps index (region .n) from j
-  pub rest : leads w loose (partsFrom index text from b) ≡ widen [] (waitingIn index text from j j) (leads w loose (partsFrom index text j b))
+  pub rest : leads w loose (partsFrom image index from b) ≡ widen [] (waitingIn image index from j j) (leads w loose (partsFrom image index j b))
 
-pub leading-none : (index text : List ℕ) (w : Kinds) (l : Bool) (from b : ℕ) → Region index text from b → Leading index text w l from b from
-leading-none index text w l from b r = record { region = r; done = here; rest = rw (waiting-none, widen-none) }
+pub leading-none : (index image : List ℕ) (w : Kinds) (l : Bool) (from b : ℕ) → Region image index from b → Leading index image w l from b from
+leading-none index image w l from b r = record { region = r; done = here; rest = rw (waiting-none, widen-none) }
 
-leads-next : {index text : List ℕ} {n : ℕ} (t : Table index text n) (w : Kinds) (l : Bool) (j b : ℕ) → b ≤ n → j < b
-    → leads w l (partsFrom index text j b) ≡ ledBy (turn w l true false (partAt index text j)) (partAt index text j) (leads w l (partsFrom index text (endAt index j) b)) (gaps w l false true (partsFrom index text (endAt index j) b))
+leads-next : {index image : List ℕ} {n : ℕ} (t : Table image index n) (w : Kinds) (l : Bool) (j b : ℕ) → b ≤ n → j < b
+    → leads w l (partsFrom image index j b) ≡ ledBy (turn w l true false (partAt image index j)) (partAt image index j) (leads w l (partsFrom image index (endAt index j) b)) (gaps w l false true (partsFrom image index (endAt index j) b))
 unfolding leads
 leads-next t w l j b k g = rw (parts-next t j b k g)
 
@@ -41,39 +41,39 @@ adds-error G.error s x y = rw (y .error)
 adds-error G.skip s x y = rw (y .error)
 adds-error G.over s x y = rw (y .error)
 
-module _ {index text : List ℕ} {w : Kinds} {l : Bool} {from b j : ℕ} (K : Leading index text w l from b j) where
-  abbrev tab : Table index text (K .region .n)
+module _ {index image : List ℕ} {w : Kinds} {l : Bool} {from b j : ℕ} (K : Leading index image w l from b j) where
+  abbrev tab : Table image index (K .region .n)
   tab = K .region .table
 
-  laid : {e : Bool} {d : ℕ} → Lies index text (record { from = from; cut = j; to = j; had = e; end = d })
+  laid : {e : Bool} {d : ℕ} → Lies image index (record { from = from; cut = j; to = j; had = e; end = d })
   laid = record { first = record { n = K .region .n; table = tab; upto = K .region .begins; jumps = K .done }; second = record { n = K .region .n; table = tab; upto = K .region .begins; jumps = here } }
 
   module _ (lt : j < b) where
     abbrev x : Part
-    x = partAt index text j
+    x = partAt image index j
 
     in-n : j < K .region .n
     in-n = omega (arith, K .region .ends)
 
-    step : (g : Go) → turn w l true false x ≡ G.on g → Says g true x → Leading index text w l from b (endAt index j)
+    step : (g : Go) → turn w l true false x ≡ G.on g → Says g true x → Leading index image w l from b (endAt index j)
     step g q y = record {
       region = record { n = K .region .n; table = tab; begins = tab .inside j in-n; ends = K .region .ends };
       done = jumps-next tab (K .done) in-n;
       rest = rw (waiting-follow tab from j in-n (K .done), adds-error g true x y)
-          (K .rest ∙ ap (widen [] (waitingIn index text from j j)) (rw q at (leads-next tab w l j b (K .region .ends) lt)) ∙ widen-both [] (waitingIn index text from j j) [] (addsError g x) _);
+          (K .rest ∙ ap (widen [] (waitingIn image index from j j)) (rw q at (leads-next tab w l j b (K .region .ends) lt)) ∙ widen-both [] (waitingIn image index from j j) [] (addsError g x) _);
     }
 
-    pub leading-more : (c next : ℕ) → c ≡ code (turn w l true false x) → c < 6 → next ≡ endAt index j → Leading index text w l from b next
+    pub leading-more : (c next : ℕ) → c ≡ code (turn w l true false x) → c < 6 → next ≡ endAt index j → Leading index image w l from b next
     leading-more c next e k z = rw z (go (turn w l true false x) refl (said w l true false x) e)
       where
-        go : (T : Turn) → turn w l true false x ≡ T → Saying T true x → c ≡ code T → Leading index text w l from b (endAt index j)
+        go : (T : Turn) → turn w l true false x ≡ T → Saying T true x → c ≡ code T → Leading index image w l from b (endAt index j)
         go (G.on g) q y e = step g q y
         go G.child q y e = absurd (omega arith)
         go G.out q y e = absurd (omega arith)
         go G.foreign q y e = absurd (omega arith)
 
     abbrev Ended : ℕ → Type 0
-    Ended c = led index text w l b (record { from = from; cut = j; to = j; had = false; end = c - 6 }) ≡ widen [] (waitingIn index text from j j) (leads w l (partsFrom index text j b))
+    Ended c = led image index w l b (record { from = from; cut = j; to = j; had = false; end = c - 6 }) ≡ widen [] (waitingIn image index from j j) (leads w l (partsFrom image index j b))
 
     ended : (c : ℕ) → c ≡ code (turn w l true false x) → 6 ≤ c → Ended c
     unfolding led widen
@@ -81,11 +81,11 @@ module _ {index text : List ℕ} {w : Kinds} {l : Bool} {from b j : ℕ} (K : Le
       where
         go : (T : Turn) → turn w l true false x ≡ T → c ≡ code T → Ended c
         go (G.on g) q e = absurd (omega (arith, go-le g))
-        go G.child q e = rw (leads-next tab w l j b (K .region .ends) lt, q, e, append-nil (waitingIn index text from j j))
-        go G.out q e = rw (leads-next tab w l j b (K .region .ends) lt, q, e, append-nil (waitingIn index text from j j))
+        go G.child q e = rw (leads-next tab w l j b (K .region .ends) lt, q, e, append-nil (waitingIn image index from j j))
+        go G.out q e = rw (leads-next tab w l j b (K .region .ends) lt, q, e, append-nil (waitingIn image index from j j))
         go G.foreign q e = rw (leads-next tab w l j b (K .region .ends) lt, q, e)
 
-    pub leading-stop : (c d : ℕ) → c ≡ code (turn w l true false x) → 6 ≤ c → d ≡ c - 6 → Leads index text w l from b (record { from = from; cut = j; to = j; had = false; end = d })
+    pub leading-stop : (c d : ℕ) → c ≡ code (turn w l true false x) → 6 ≤ c → d ≡ c - 6 → Leads image index w l from b (record { from = from; cut = j; to = j; had = false; end = d })
     leading-stop c d e k z = rw z (record {
       begins = refl;
       cuts = refl;
@@ -98,11 +98,11 @@ module _ {index text : List ℕ} {w : Kinds} {l : Bool} {from b j : ℕ} (K : Le
     pub leading-less : (next : ℕ) → next ≡ endAt index j → b - next < b - j
     leading-less next e = omega (arith, tab .past j in-n)
 
-  over : b ≤ j → led index text w l b (record { from = from; cut = j; to = j; had = false; end = 1 }) ≡ widen [] (waitingIn index text from j j) (leads w l (partsFrom index text j b))
+  over : b ≤ j → led image index w l b (record { from = from; cut = j; to = j; had = false; end = 1 }) ≡ widen [] (waitingIn image index from j j) (leads w l (partsFrom image index j b))
   unfolding led widen leads
-  over k = rw (parts-over index text j b k, append-nil (waitingIn index text from j j))
+  over k = rw (parts-over index image j b k, append-nil (waitingIn image index from j j))
 
-  pub leading-all : b ≤ j → Leads index text w l from b (record { from = from; cut = j; to = j; had = false; end = 1 })
+  pub leading-all : b ≤ j → Leads image index w l from b (record { from = from; cut = j; to = j; had = false; end = 1 })
   leading-all k = record {
     begins = refl;
     cuts = refl;

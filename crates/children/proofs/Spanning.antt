@@ -98,91 +98,91 @@ said w l s h x = go (oneOf w (x .kind)) (is Class.Trivia x) refl (is Class.Custo
 
 -- ---- one element more in a gap
 
-module _ {index text : List ℕ} {n : ℕ} (t : Table index text n) (from j : ℕ) (k : j < n) where
-  inline-more : Jumps index n from j → inlineIn index text from (endAt index j) ≡ inlineIn index text from j ++ cond (is Class.Trivia (partAt index text j)) (partAt index text j ∷ []) []
+module _ {index image : List ℕ} {n : ℕ} (t : Table image index n) (from j : ℕ) (k : j < n) where
+  inline-more : Jumps index n from j → inlineIn image index from (endAt index j) ≡ inlineIn image index from j ++ cond (is Class.Trivia (partAt image index j)) (partAt image index j ∷ []) []
   unfolding inlineIn
-  inline-more p = rw (parts-more t p k, all-more (kinds Class.Trivia) (partsFrom index text from j) (partAt index text j))
+  inline-more p = rw (parts-more t p k, all-more (kinds Class.Trivia) (partsFrom image index from j) (partAt image index j))
 
-  pub waiting-follow : Jumps index n from j → waitingIn index text from (endAt index j) (endAt index j) ≡ waitingIn index text from j j ++ cond (is Class.CustomError (partAt index text j)) (partAt index text j ∷ []) []
+  pub waiting-follow : Jumps index n from j → waitingIn image index from (endAt index j) (endAt index j) ≡ waitingIn image index from j j ++ cond (is Class.CustomError (partAt image index j)) (partAt image index j ∷ []) []
   unfolding waitingIn allOf
   waiting-follow p =
       rw (
-        parts-over index text (endAt index j) (endAt index j) (omega arith),
-        parts-over index text j j (omega arith),
+        parts-over index image (endAt index j) (endAt index j) (omega arith),
+        parts-over index image j j (omega arith),
         parts-more t p k,
-        all-more (kinds Class.CustomError) (partsFrom index text from j) (partAt index text j),
+        all-more (kinds Class.CustomError) (partsFrom image index from j) (partAt image index j),
         append-nil,
         append-nil,
       )
 
-  waiting-more : (cut : ℕ) → Jumps index n cut j → waitingIn index text from cut (endAt index j) ≡ waitingIn index text from cut j ++ cond (isNote (partAt index text j)) (partAt index text j ∷ []) []
+  waiting-more : (cut : ℕ) → Jumps index n cut j → waitingIn image index from cut (endAt index j) ≡ waitingIn image index from cut j ++ cond (isNote (partAt image index j)) (partAt image index j ∷ []) []
   unfolding waitingIn
-  waiting-more cut p = rw (parts-more t p k, all-more notes (partsFrom index text cut j) (partAt index text j), note-kinds (partAt index text j), append-assoc)
+  waiting-more cut p = rw (parts-more t p k, all-more notes (partsFrom image index cut j) (partAt image index j), note-kinds (partAt image index j), append-assoc)
 
-gaps-next : {index text : List ℕ} {n : ℕ} (t : Table index text n) (w : Kinds) (l s h : Bool) (j b : ℕ) → b ≤ n → j < b
-    → gaps w l s h (partsFrom index text j b) ≡ turned (turn w l s h (partAt index text j)) (partAt index text j) s h (λ s h. gaps w l s h (partsFrom index text (endAt index j) b))
+gaps-next : {index image : List ℕ} {n : ℕ} (t : Table image index n) (w : Kinds) (l s h : Bool) (j b : ℕ) → b ≤ n → j < b
+    → gaps w l s h (partsFrom image index j b) ≡ turned (turn w l s h (partAt image index j)) (partAt image index j) s h (λ s h. gaps w l s h (partsFrom image index (endAt index j) b))
 unfolding gaps
-gaps-next {index} {text} t w l s h j b k g = rw (parts-next t j b k g)
+gaps-next {index} {image} t w l s h j b k g = rw (parts-next t j b k g)
 
 -- ---- the loop of `gap`
 
 -- The gap so far: what is read from j on, with what was met in front, is what is read from `from` on.
-pub record Spanning (index text : List ℕ) (w : Kinds) (loose after : Bool) (from b cut j : ℕ) (started had : Bool) : Type 0 where
-  pub region : Region index text j b
+pub record Spanning (index image : List ℕ) (w : Kinds) (loose after : Bool) (from b cut j : ℕ) (started had : Bool) : Type 0 where
+  pub region : Region image index j b
   pub first : Jumps index (region .n) from cut
   pub second : Jumps index (region .n) cut j
   pub follows : started ≡ false → cut ≡ j
-  pub rest : gaps w loose (not after) after (partsFrom index text from b) ≡ widen (inlineIn index text from cut) (waitingIn index text from cut j) (gaps w loose started had (partsFrom index text j b))
+  pub rest : gaps w loose (not after) after (partsFrom image index from b) ≡ widen (inlineIn image index from cut) (waitingIn image index from cut j) (gaps w loose started had (partsFrom image index j b))
 
-inline-none : (index text : List ℕ) (a : ℕ) → inlineIn index text a a ≡ []
+inline-none : (index image : List ℕ) (a : ℕ) → inlineIn image index a a ≡ []
 unfolding inlineIn allOf
-inline-none index text a = rw (parts-over index text a a (omega arith))
+inline-none index image a = rw (parts-over index image a a (omega arith))
 
-pub waiting-none : (index text : List ℕ) (a : ℕ) → waitingIn index text a a a ≡ []
+pub waiting-none : (index image : List ℕ) (a : ℕ) → waitingIn image index a a a ≡ []
 unfolding waitingIn allOf
-waiting-none index text a = rw (parts-over index text a a (omega arith))
+waiting-none index image a = rw (parts-over index image a a (omega arith))
 
-pub spanning-none : (index text : List ℕ) (w : Kinds) (l a : Bool) (from b : ℕ) → Region index text from b → Spanning index text w l a from b from from (not a) a
-spanning-none index text w l a from b r =
+pub spanning-none : (index image : List ℕ) (w : Kinds) (l a : Bool) (from b : ℕ) → Region image index from b → Spanning index image w l a from b from from (not a) a
+spanning-none index image w l a from b r =
     record { region = r; first = here; second = here; follows = λ q. refl; rest = rw (inline-none, waiting-none, widen-none) }
 
-laid : {index text : List ℕ} {w : Kinds} {l a : Bool} {from b cut j : ℕ} {s h e : Bool} {d : ℕ} → Spanning index text w l a from b cut j s h → Lies index text (record { from = from; cut = cut; to = j; had = e; end = d })
+laid : {index image : List ℕ} {w : Kinds} {l a : Bool} {from b cut j : ℕ} {s h e : Bool} {d : ℕ} → Spanning index image w l a from b cut j s h → Lies image index (record { from = from; cut = cut; to = j; had = e; end = d })
 laid K = record {
   first = record { n = K .region .n; table = K .region .table; upto = omega (arith, K .region .begins, jumps-le (K .region .table) (K .second)); jumps = K .first };
   second = record { n = K .region .n; table = K .region .table; upto = K .region .begins; jumps = K .second };
 }
 
-module _ {index text : List ℕ} {w : Kinds} {l a : Bool} {from b cut j : ℕ} {s h : Bool} (K : Spanning index text w l a from b cut j s h) (lt : j < b) where
-  abbrev tab : Table index text (K .region .n)
+module _ {index image : List ℕ} {w : Kinds} {l a : Bool} {from b cut j : ℕ} {s h : Bool} (K : Spanning index image w l a from b cut j s h) (lt : j < b) where
+  abbrev tab : Table image index (K .region .n)
   tab = K .region .table
 
   abbrev x : Part
-  x = partAt index text j
+  x = partAt image index j
 
   in-n : j < K .region .n
   in-n = omega (arith, K .region .ends)
 
-  step-rest : (g : Go) → turn w l s h x ≡ G.on g → gaps w l (not a) a (partsFrom index text from b)
-      ≡ widen (inlineIn index text from cut ++ addsInline g x) (waitingIn index text from cut j ++ addsWaiting g x) (gaps w l (startedAfter g s) (hadAfter g h) (partsFrom index text (endAt index j) b))
-  step-rest g q = K .rest ∙ ap (widen (inlineIn index text from cut) (waitingIn index text from cut j)) (rw q at (gaps-next tab w l s h j b (K .region .ends) lt)) ∙ widen-both _ _ _ _ _
+  step-rest : (g : Go) → turn w l s h x ≡ G.on g → gaps w l (not a) a (partsFrom image index from b)
+      ≡ widen (inlineIn image index from cut ++ addsInline g x) (waitingIn image index from cut j ++ addsWaiting g x) (gaps w l (startedAfter g s) (hadAfter g h) (partsFrom image index (endAt index j) b))
+  step-rest g q = K .rest ∙ ap (widen (inlineIn image index from cut) (waitingIn image index from cut j)) (rw q at (gaps-next tab w l s h j b (K .region .ends) lt)) ∙ widen-both _ _ _ _ _
 
-  abbrev next-region : Region index text (endAt index j) b
+  abbrev next-region : Region image index (endAt index j) b
   next-region = record { n = K .region .n; table = tab; begins = tab .inside j in-n; ends = K .region .ends }
 
   -- the cut stays where it is
   stays : (g : Go) → turn w l s h x ≡ G.on g → addsInline g x ≡ [] → cond (isNote x) (x ∷ []) [] ≡ addsWaiting g x → (startedAfter g s ≡ false → ⊥)
-      → Spanning index text w l a from b cut (endAt index j) (startedAfter g s) (hadAfter g h)
+      → Spanning index image w l a from b cut (endAt index j) (startedAfter g s) (hadAfter g h)
   stays g q u v f = record {
     region = next-region;
     first = K .first;
     second = jumps-next tab (K .second) in-n;
     follows = λ e. absurd (f e);
-    rest = rw (waiting-more tab from j in-n cut (K .second), v) (rw (u, append-nil (inlineIn index text from cut)) at (step-rest g q));
+    rest = rw (waiting-more tab from j in-n cut (K .second), v) (rw (u, append-nil (inlineIn image index from cut)) at (step-rest g q));
   }
 
   -- the cut goes on with the element
   goes : (g : Go) → turn w l s h x ≡ G.on g → s ≡ false → cond (is Class.Trivia x) (x ∷ []) [] ≡ addsInline g x → cond (is Class.CustomError x) (x ∷ []) [] ≡ addsWaiting g x
-      → Spanning index text w l a from b (endAt index j) (endAt index j) (startedAfter g s) (hadAfter g h)
+      → Spanning index image w l a from b (endAt index j) (endAt index j) (startedAfter g s) (hadAfter g h)
   goes g q z u v =
       let e : cut ≡ j = K .follows z in
       let p : Jumps index (K .region .n) from j = rw e at (K .first) in
@@ -195,7 +195,7 @@ module _ {index text : List ℕ} {w : Kinds} {l a : Bool} {from b cut j : ℕ} {
       }
 
   abbrev Stepped : ℕ → Type 0
-  Stepped c = Spanning index text w l a from b (cond (followsBy c s) (endAt index j) cut) (endAt index j) (startedBy c s) (hadBy c h)
+  Stepped c = Spanning index image w l a from b (cond (followsBy c s) (endAt index j) cut) (endAt index j) (startedBy c s) (hadBy c h)
 
   step : (g : Go) → turn w l s h x ≡ G.on g → Says g s x → (v : Bool) → s ≡ v → Stepped (goCode g)
   unfolding followsBy startedBy hadBy
@@ -218,11 +218,11 @@ module _ {index text : List ℕ} {w : Kinds} {l a : Bool} {from b cut j : ℕ} {
       go G.foreign q y e = absurd (omega arith)
 
   pub spanning-more : (c next cut′ : ℕ) (f s′ h′ : Bool) → c ≡ code (turn w l s h x) → c < 6 → next ≡ endAt index j → f ≡ followsBy c s → cut′ ≡ cond f next cut → h′ ≡ hadBy c h → s′ ≡ startedBy c s
-      → Spanning index text w l a from b cut′ next s′ h′
+      → Spanning index image w l a from b cut′ next s′ h′
   spanning-more c next cut′ f s′ h′ e k n p q u v = rw (q, p, n, u, v) (stepped c e k)
 
   abbrev Ended : ℕ → Type 0
-  Ended c = spanned index text w l b (record { from = from; cut = cut; to = j; had = h; end = c - 6 }) ≡ widen (inlineIn index text from cut) (waitingIn index text from cut j) (gaps w l s h (partsFrom index text j b))
+  Ended c = spanned image index w l b (record { from = from; cut = cut; to = j; had = h; end = c - 6 }) ≡ widen (inlineIn image index from cut) (waitingIn image index from cut j) (gaps w l s h (partsFrom image index j b))
 
   ended : (c : ℕ) → c ≡ code (turn w l s h x) → 6 ≤ c → Ended c
   unfolding spanned widen
@@ -230,11 +230,11 @@ module _ {index text : List ℕ} {w : Kinds} {l a : Bool} {from b cut j : ℕ} {
     where
       go : (T : Turn) → turn w l s h x ≡ T → Saying T s x → c ≡ code T → Ended c
       go (G.on g) q y e = absurd (omega (arith, go-le g))
-      go G.child q y e = rw (gaps-next tab w l s h j b (K .region .ends) lt, q, e, append-nil (inlineIn index text from cut), append-nil (waitingIn index text from cut j))
-      go G.out q y e = rw (gaps-next tab w l s h j b (K .region .ends) lt, q, e, append-nil (inlineIn index text from cut), append-nil (waitingIn index text from cut j))
+      go G.child q y e = rw (gaps-next tab w l s h j b (K .region .ends) lt, q, e, append-nil (inlineIn image index from cut), append-nil (waitingIn image index from cut j))
+      go G.out q y e = rw (gaps-next tab w l s h j b (K .region .ends) lt, q, e, append-nil (inlineIn image index from cut), append-nil (waitingIn image index from cut j))
       go G.foreign q y e = rw (gaps-next tab w l s h j b (K .region .ends) lt, q, e)
 
-  pub spanning-stop : (c d : ℕ) → c ≡ code (turn w l s h x) → 6 ≤ c → d ≡ c - 6 → Spans index text w l a from b (record { from = from; cut = cut; to = j; had = h; end = d })
+  pub spanning-stop : (c d : ℕ) → c ≡ code (turn w l s h x) → 6 ≤ c → d ≡ c - 6 → Spans image index w l a from b (record { from = from; cut = cut; to = j; had = h; end = d })
   spanning-stop c d e k z = rw z (record {
     begins = refl;
     lies = laid K;
@@ -243,24 +243,24 @@ module _ {index text : List ℕ} {w : Kinds} {l a : Bool} {from b cut j : ℕ} {
     read = K .rest ∙ sym (ended c e k);
   })
 
-gaps-none : (w : Kinds) (l s h : Bool) (index text : List ℕ) (j b : ℕ) → b ≤ j → gaps w l s h (partsFrom index text j b) ≡ ending (G.gapOf [] [] h)
+gaps-none : (w : Kinds) (l s h : Bool) (index image : List ℕ) (j b : ℕ) → b ≤ j → gaps w l s h (partsFrom image index j b) ≡ ending (G.gapOf [] [] h)
 unfolding gaps
-gaps-none w l s h index text j b k = rw (parts-over index text j b k)
+gaps-none w l s h index image j b k = rw (parts-over index image j b k)
 
-over : (index text : List ℕ) (w : Kinds) (l : Bool) (from b cut j : ℕ) (s h : Bool) → b ≤ j
-    → spanned index text w l b (record { from = from; cut = cut; to = j; had = h; end = 1 }) ≡ widen (inlineIn index text from cut) (waitingIn index text from cut j) (gaps w l s h (partsFrom index text j b))
+over : (index image : List ℕ) (w : Kinds) (l : Bool) (from b cut j : ℕ) (s h : Bool) → b ≤ j
+    → spanned image index w l b (record { from = from; cut = cut; to = j; had = h; end = 1 }) ≡ widen (inlineIn image index from cut) (waitingIn image index from cut j) (gaps w l s h (partsFrom image index j b))
 unfolding spanned widen
-over index text w l from b cut j s h k = rw (gaps-none w l s h index text j b k, append-nil (inlineIn index text from cut), append-nil (waitingIn index text from cut j))
+over index image w l from b cut j s h k = rw (gaps-none w l s h index image j b k, append-nil (inlineIn image index from cut), append-nil (waitingIn image index from cut j))
 
-pub spanning-all : {index text : List ℕ} {w : Kinds} {l a : Bool} {from b cut j : ℕ} {s h : Bool} → Spanning index text w l a from b cut j s h → b ≤ j
-    → Spans index text w l a from b (record { from = from; cut = cut; to = j; had = h; end = 1 })
-spanning-all {index} {text} {w} {l} {a} {from} {b} {cut} {j} {s} {h} K k = record {
+pub spanning-all : {index image : List ℕ} {w : Kinds} {l a : Bool} {from b cut j : ℕ} {s h : Bool} → Spanning index image w l a from b cut j s h → b ≤ j
+    → Spans image index w l a from b (record { from = from; cut = cut; to = j; had = h; end = 1 })
+spanning-all {index} {image} {w} {l} {a} {from} {b} {cut} {j} {s} {h} K k = record {
   begins = refl;
   lies = laid K;
   onward = K .region;
   inside = λ q. absurd (omega arith);
-  read = K .rest ∙ sym (over index text w l from b cut j s h k);
+  read = K .rest ∙ sym (over index image w l from b cut j s h k);
 }
 
-pub spanning-less : {index text : List ℕ} {w : Kinds} {l a : Bool} {from b cut j : ℕ} {s h : Bool} (next : ℕ) → Spanning index text w l a from b cut j s h → j < b → next ≡ endAt index j → b - next < b - j
-spanning-less {index} {text} {w} {l} {a} {from} {b} {cut} {j} next K k e = omega (arith, K .region .table .past j (omega (arith, K .region .ends)))
+pub spanning-less : {index image : List ℕ} {w : Kinds} {l a : Bool} {from b cut j : ℕ} {s h : Bool} (next : ℕ) → Spanning index image w l a from b cut j s h → j < b → next ≡ endAt index j → b - next < b - j
+spanning-less {index} {image} {w} {l} {a} {from} {b} {cut} {j} next K k e = omega (arith, K .region .table .past j (omega (arith, K .region .ends)))

@@ -40,7 +40,7 @@ jumps-wider : {index : List ℕ} {n m a j : ℕ} → n ≤ m → Jumps index n a
 jumps-wider h here = here
 jumps-wider h (jump {a} g k) = jump {a = a} (omega arith) (jumps-wider h k)
 
-module _ {index text : List ℕ} {n : ℕ} (t : Table index text n) where
+module _ {index image : List ℕ} {n : ℕ} (t : Table image index n) where
   -- jumps go on
   pub jumps-le : {a j : ℕ} → Jumps index n a j → a ≤ j
   jumps-le here = omega arith
@@ -59,13 +59,13 @@ module _ {index text : List ℕ} {n : ℕ} (t : Table index text n) where
   jumps-behind (jump g k) (jump g′ k′) h = jumps-behind k k′ h
 
 -- a stretch of nothing
-pub stretch-none : {index text : List ℕ} {a b : ℕ} → Region index text a b → Stretch index text a a
+pub stretch-none : {index image : List ℕ} {a b : ℕ} → Region image index a b → Stretch image index a a
 stretch-none r = record { n = r .n; table = r .table; upto = r .begins; jumps = here }
 
 -- a stretch and the next are one: the wider of their tables holds both
-pub stretch-both : {index text : List ℕ} {a c b : ℕ} → Stretch index text a c → Stretch index text c b → Stretch index text a b
-stretch-both {index} {text} {a} {c} {b} s t = go (decLt (s .n) (t .n))
+pub stretch-both : {index image : List ℕ} {a c b : ℕ} → Stretch image index a c → Stretch image index c b → Stretch image index a b
+stretch-both {index} {image} {a} {c} {b} s t = go (decLt (s .n) (t .n))
   where
-    go : Dec (s .n < t .n) → Stretch index text a b
+    go : Dec (s .n < t .n) → Stretch image index a b
     go (yes p) = record { n = t .n; table = t .table; upto = t .upto; jumps = jumps-both (jumps-wider (omega arith) (s .jumps)) (t .jumps) }
     go (no p) = record { n = s .n; table = s .table; upto = omega (arith, t .upto); jumps = jumps-both (s .jumps) (jumps-wider (omega arith) (t .jumps)) }

@@ -117,11 +117,11 @@ count-take (suc k) (x ∷ s) = go (eqb x 10) (count-take k s)
     go true h = omega arith
     go false h = omega arith
 
-space-few : {index text : List ℕ} {n : ℕ} (t : Table index text n) (j : ℕ) → j < n → spaceIn (partAt index text j) + startAt index j ≤ startAt index (endAt index j)
+space-few : {index image : List ℕ} {n : ℕ} (t : Table image index n) (j : ℕ) → j < n → spaceIn (partAt image index j) + startAt index j ≤ startAt index (endAt index j)
 unfolding spaceIn textAt
-space-few {index} {text} t j h =
+space-few {index} {image} t j h =
     let q : startAt index j ≤ startAt index (endAt index j) = t .forward j (endAt index j) (omega (arith, t .past j h)) (t .inside j h) in
-    go (eqb (kindAt index j) 64) (count-take (startAt index (endAt index j) - startAt index j) (drop (startAt index j) text)) q
+    go (eqb (kindAt index j) 64) (count-take (startAt index (endAt index j) - startAt index j) (drop (startAt index j) image)) q
   where
     go : (b : Bool) {c : ℕ} → c ≤ startAt index (endAt index j) - startAt index j → startAt index j ≤ startAt index (endAt index j) → cond b c 0 + startAt index j ≤ startAt index (endAt index j)
     go true h q = omega arith
@@ -136,42 +136,42 @@ error-few x = go (is Class.CustomError x)
     go false = omega arith
 
 -- a jump on, of the jumps that are left
-left-next : {index text : List ℕ} {n : ℕ} (t : Table index text n) {j b : ℕ} → Jumps index n j b → j < b → Jumps index n (endAt index j) b
+left-next : {index image : List ℕ} {n : ℕ} (t : Table image index n) {j b : ℕ} → Jumps index n j b → j < b → Jumps index n (endAt index j) b
 left-next t here h = absurd (omega arith)
 left-next t (jump g k) h = k
 
 -- ---- the small functions
 
-pub space-yes : (index text : List ℕ) (j k n : ℕ) → k ≡ kindAt index j → k ≡ 64 → n ≡ count 10 (textAt index text j) → n ≡ spaceIn (partAt index text j)
+pub space-yes : (index image : List ℕ) (j k n : ℕ) → k ≡ kindAt index j → k ≡ 64 → n ≡ count 10 (textAt image index j) → n ≡ spaceIn (partAt image index j)
 unfolding spaceIn
-space-yes index text j k n e q f = rw (← e, eq-eqb k 64 q) f
+space-yes index image j k n e q f = rw (← e, eq-eqb k 64 q) f
 
-pub space-no : (index text : List ℕ) (j k : ℕ) → k ≡ kindAt index j → (k ≡ 64 → ⊥) → 0 ≡ spaceIn (partAt index text j)
+pub space-no : (index image : List ℕ) (j k : ℕ) → k ≡ kindAt index j → (k ≡ 64 → ⊥) → 0 ≡ spaceIn (partAt image index j)
 unfolding spaceIn
-space-no index text j k e q = rw (← e, ne-eqb k 64 q)
+space-no index image j k e q = rw (← e, ne-eqb k 64 q)
 
-pub error-is : (index text : List ℕ) (j k r : ℕ) (e : Bool) → k ≡ kindAt index j → e ≡ ofKind Class.CustomError k → r ≡ cond e 1 0 → r ≡ errorIn (partAt index text j)
+pub error-is : (index image : List ℕ) (j k r : ℕ) (e : Bool) → k ≡ kindAt index j → e ≡ ofKind Class.CustomError k → r ≡ cond e 1 0 → r ≡ errorIn (partAt image index j)
 unfolding errorIn
-error-is index text j k r e p q f = rw (← p, ← q) f
+error-is index image j k r e p q f = rw (← p, ← q) f
 
-pub stops-is : (index text : List ℕ) (j k : ℕ) (e r : Bool) → k ≡ kindAt index j → e ≡ ofKind Class.Trivia k → r ≡ (e && not (eqb k 64)) → r ≡ stops (partAt index text j)
+pub stops-is : (index image : List ℕ) (j k : ℕ) (e r : Bool) → k ≡ kindAt index j → e ≡ ofKind Class.Trivia k → r ≡ (e && not (eqb k 64)) → r ≡ stops (partAt image index j)
 unfolding stops
-stops-is index text j k e r p q f = rw (← p, ← q) f
+stops-is index image j k e r p q f = rw (← p, ← q) f
 
 -- ---- a stretch walked so far
 
 -- What was passed from a up to j, and what is left up to b.
-pub record Passing (index text : List ℕ) (a b j : ℕ) : Type 0 where
+pub record Passing (index image : List ℕ) (a b j : ℕ) : Type 0 where
   pub n : ℕ
-  pub table : Table index text n
+  pub table : Table image index n
   pub upto : b ≤ n
   pub done : Jumps index n a j
   pub left : Jumps index n j b
 
-pub passing-none : {index text : List ℕ} {a b : ℕ} → Stretch index text a b → Passing index text a b a
+pub passing-none : {index image : List ℕ} {a b : ℕ} → Stretch image index a b → Passing index image a b a
 passing-none r = record { n = r .n; table = r .table; upto = r .upto; done = here; left = r .jumps }
 
-module _ {index text : List ℕ} {a b j : ℕ} (K : Passing index text a b j) where
+module _ {index image : List ℕ} {a b j : ℕ} (K : Passing index image a b j) where
   pub passing-upto : j ≤ b
   passing-upto = jumps-le (K .table) (K .left)
 
@@ -189,86 +189,86 @@ module _ {index text : List ℕ} {a b j : ℕ} (K : Passing index text a b j) wh
     pub passing-past : j < endAt index j
     passing-past = K .table .past j passing-in
 
-    pub passing-more : Passing index text a b (endAt index j)
+    pub passing-more : Passing index image a b (endAt index j)
     passing-more = record { n = K .n; table = K .table; upto = K .upto; done = jumps-next (K .table) (K .done) passing-in; left = left-next (K .table) (K .left) lt }
 
-    pub passing-part : partsFrom index text a (endAt index j) ≡ partsFrom index text a j ++ partAt index text j ∷ []
+    pub passing-part : partsFrom image index a (endAt index j) ≡ partsFrom image index a j ++ partAt image index j ∷ []
     passing-part = parts-more (K .table) (K .done) passing-in
 
     -- the line feeds of the element at hand lie in its text
-    pub passing-space : spaceIn (partAt index text j) + startAt index j ≤ startAt index (endAt index j)
+    pub passing-space : spaceIn (partAt image index j) + startAt index j ≤ startAt index (endAt index j)
     passing-space = space-few (K .table) j passing-in
 
     -- a sum that was small enough stays so with the element at hand
-    pub passing-fits : (n f e : ℕ) → n + startAt index a ≤ startAt index j + j → f ≡ spaceIn (partAt index text j) → e ≡ errorIn (partAt index text j) → n + f + e ≤ length text + length index
+    pub passing-fits : (n f e : ℕ) → n + startAt index a ≤ startAt index j + j → f ≡ spaceIn (partAt image index j) → e ≡ errorIn (partAt image index j) → n + f + e ≤ length image + length index
     passing-fits n f e h p q =
         let k : endAt index j ≤ K .n = K .table .inside j passing-in in
-        omega (arith, h, passing-space, error-few (partAt index text j), K .table .forward (endAt index j) (K .n) k (omega arith), K .table .whole, K .table .size, passing-in)
+        omega (arith, h, passing-space, error-few (partAt image index j), K .table .forward (endAt index j) (K .n) k (omega arith), K .table .whole, K .table .size, passing-in)
 
     pub passing-less : (next : ℕ) → next ≡ endAt index j → b - next < b - j
     passing-less next e = omega (arith, passing-past)
 
 -- ---- the loop of `errors`
 
-pub record Erring (index text : List ℕ) (a b n j : ℕ) : Type 0 where
-  pub pass : Passing index text a b j
-  pub sum : n ≡ length (allOf (kinds Class.CustomError) (partsFrom index text a j))
+pub record Erring (index image : List ℕ) (a b n j : ℕ) : Type 0 where
+  pub pass : Passing index image a b j
+  pub sum : n ≡ length (allOf (kinds Class.CustomError) (partsFrom image index a j))
   pub few : n ≤ j
 
-pub erring-none : (index text : List ℕ) (a b : ℕ) → Stretch index text a b → Erring index text a b 0 a
+pub erring-none : (index image : List ℕ) (a b : ℕ) → Stretch image index a b → Erring index image a b 0 a
 unfolding allOf
-erring-none index text a b r = record { pass = passing-none r; sum = rw (parts-over index text a a (omega arith)); few = omega arith }
+erring-none index image a b r = record { pass = passing-none r; sum = rw (parts-over index image a a (omega arith)); few = omega arith }
 
-module _ {index text : List ℕ} {a b n j : ℕ} (K : Erring index text a b n j) where
-  pub erring-all : b ≤ j → Errors index text a b n
+module _ {index image : List ℕ} {a b n j : ℕ} (K : Erring index image a b n j) where
+  pub erring-all : b ≤ j → Errors image index a b n
   erring-all h = rw (← (passing-all (K .pass) h)) (record { sum = K .sum; few = K .few })
 
   module _ (lt : j < b) where
     pub erring-less : (next : ℕ) → next ≡ endAt index j → b - next < b - j
     erring-less = passing-less (K .pass) lt
 
-    pub erring-fits : (e : ℕ) → e ≡ errorIn (partAt index text j) → n + e ≤ length index
-    erring-fits e q = omega (arith, K .few, error-few (partAt index text j), passing-in (K .pass) lt, K .pass .table .size)
+    pub erring-fits : (e : ℕ) → e ≡ errorIn (partAt image index j) → n + e ≤ length index
+    erring-fits e q = omega (arith, K .few, error-few (partAt image index j), passing-in (K .pass) lt, K .pass .table .size)
 
-    pub erring-more : (e m next : ℕ) → e ≡ errorIn (partAt index text j) → m ≡ n + e → next ≡ endAt index j → Erring index text a b m next
+    pub erring-more : (e m next : ℕ) → e ≡ errorIn (partAt image index j) → m ≡ n + e → next ≡ endAt index j → Erring index image a b m next
     erring-more e m next q x z = rw z (record {
       pass = passing-more (K .pass) lt;
       sum = rw (passing-part (K .pass) lt, errors-more, x, q, K .sum);
-      few = omega (arith, K .few, error-few (partAt index text j), passing-past (K .pass) lt);
+      few = omega (arith, K .few, error-few (partAt image index j), passing-past (K .pass) lt);
     })
 
 -- ---- the loop of `back`
 
-pub record Backing (index text : List ℕ) (a b n j : ℕ) : Type 0 where
-  pub pass : Passing index text a b j
-  pub sum : n ≡ newlinesBack (reverse (inlineIn index text a j))
+pub record Backing (index image : List ℕ) (a b n j : ℕ) : Type 0 where
+  pub pass : Passing index image a b j
+  pub sum : n ≡ newlinesBack (reverse (inlineIn image index a j))
   pub few : n + startAt index a ≤ startAt index j + j
 
-pub backing-none : (index text : List ℕ) (a b : ℕ) → Stretch index text a b → Backing index text a b 0 a
+pub backing-none : (index image : List ℕ) (a b : ℕ) → Stretch image index a b → Backing index image a b 0 a
 unfolding inlineIn allOf newlinesBack
-backing-none index text a b r = record { pass = passing-none r; sum = rw (parts-over index text a a (omega arith)); few = omega arith }
+backing-none index image a b r = record { pass = passing-none r; sum = rw (parts-over index image a a (omega arith)); few = omega arith }
 
 pick-few : (u : Bool) (r m p q : ℕ) → r ≡ cond u 1 m → m + q ≤ p → 1 + q ≤ p → r + q ≤ p
 pick-few true r m p q e h k = omega arith
 pick-few false r m p q e h k = omega arith
 
-module _ {index text : List ℕ} {a b n j : ℕ} (K : Backing index text a b n j) where
-  pub backing-all : b ≤ j → Back index text a b n
+module _ {index image : List ℕ} {a b n j : ℕ} (K : Backing index image a b n j) where
+  pub backing-all : b ≤ j → Back image index a b n
   backing-all h = rw (← (passing-all (K .pass) h)) (record { sum = K .sum; few = K .few })
 
   module _ (lt : j < b) where
     pub backing-less : (next : ℕ) → next ≡ endAt index j → b - next < b - j
     backing-less = passing-less (K .pass) lt
 
-    pub backing-fits : (f : ℕ) → f ≡ spaceIn (partAt index text j) → f + n ≤ length text + length index
-    backing-fits f e = omega (arith, passing-fits (K .pass) lt n f (errorIn (partAt index text j)) (K .few) e refl)
+    pub backing-fits : (f : ℕ) → f ≡ spaceIn (partAt image index j) → f + n ≤ length image + length index
+    backing-fits f e = omega (arith, passing-fits (K .pass) lt n f (errorIn (partAt image index j)) (K .few) e refl)
 
-    pub backing-more : (k f m r next : ℕ) (u : Bool) → k ≡ kindAt index j → u ≡ ofKind Class.SingleLine k → f ≡ spaceIn (partAt index text j) → m ≡ f + n → r ≡ cond u 1 m → next ≡ endAt index j → Backing index text a b r next
+    pub backing-more : (k f m r next : ℕ) (u : Bool) → k ≡ kindAt index j → u ≡ ofKind Class.SingleLine k → f ≡ spaceIn (partAt image index j) → m ≡ f + n → r ≡ cond u 1 m → next ≡ endAt index j → Backing index image a b r next
     unfolding inlineIn
     backing-more k f m r next u p q v i x z =
         let l : a ≤ j = jumps-le (K .pass .table) (K .pass .done) in
         let s : startAt index a ≤ startAt index j = K .pass .table .forward a j l (omega (arith, passing-in (K .pass) lt)) in
-        let o : spaceIn (partAt index text j) + startAt index j ≤ startAt index (endAt index j) = passing-space (K .pass) lt in
+        let o : spaceIn (partAt image index j) + startAt index j ≤ startAt index (endAt index j) = passing-space (K .pass) lt in
         let g : j < endAt index j = passing-past (K .pass) lt in
         rw z (record {
           pass = passing-more (K .pass) lt;
@@ -278,57 +278,57 @@ module _ {index text : List ℕ} {a b n j : ℕ} (K : Backing index text a b n j
 
 -- ---- the loop of `ahead`
 
-pub record Aheading (index text : List ℕ) (a b n j : ℕ) : Type 0 where
-  pub pass : Passing index text a b j
-  pub rest : n + newlinesBefore (allOf notes (partsFrom index text j b)) ≡ newlinesBefore (allOf notes (partsFrom index text a b))
+pub record Aheading (index image : List ℕ) (a b n j : ℕ) : Type 0 where
+  pub pass : Passing index image a b j
+  pub rest : n + newlinesBefore (allOf notes (partsFrom image index j b)) ≡ newlinesBefore (allOf notes (partsFrom image index a b))
   pub few : n + startAt index a ≤ startAt index j + j
 
-pub aheading-none : (index text : List ℕ) (a b : ℕ) → Stretch index text a b → Aheading index text a b 0 a
-aheading-none index text a b r = record { pass = passing-none r; rest = omega arith; few = omega arith }
+pub aheading-none : (index image : List ℕ) (a b : ℕ) → Stretch image index a b → Aheading index image a b 0 a
+aheading-none index image a b r = record { pass = passing-none r; rest = omega arith; few = omega arith }
 
-module _ {index text : List ℕ} {a b n j : ℕ} (K : Aheading index text a b n j) where
+module _ {index image : List ℕ} {a b n j : ℕ} (K : Aheading index image a b n j) where
   ahead-few : n + startAt index a ≤ startAt index b + b
   ahead-few = omega (arith, K .few, passing-upto (K .pass), passing-forward (K .pass))
 
-  pub aheading-all : b ≤ j → Ahead index text a b n
+  pub aheading-all : b ≤ j → Ahead image index a b n
   unfolding newlinesBefore allOf
-  aheading-all h = record { sum = omega (arith, rw (parts-over index text j b h) at (K .rest)); few = ahead-few }
+  aheading-all h = record { sum = omega (arith, rw (parts-over index image j b h) at (K .rest)); few = ahead-few }
 
   module _ (lt : j < b) where
-    ahead-step : (s : Bool) → s ≡ stops (partAt index text j) → n + cond s 0 (spaceIn (partAt index text j) + errorIn (partAt index text j) + newlinesBefore (allOf notes (partsFrom index text (endAt index j) b))) ≡ newlinesBefore (allOf notes (partsFrom index text a b))
+    ahead-step : (s : Bool) → s ≡ stops (partAt image index j) → n + cond s 0 (spaceIn (partAt image index j) + errorIn (partAt image index j) + newlinesBefore (allOf notes (partsFrom image index (endAt index j) b))) ≡ newlinesBefore (allOf notes (partsFrom image index a b))
     ahead-step s e = rw e (rw (parts-next (K .pass .table) j b (K .pass .upto) lt, ahead-next) at (K .rest))
 
-    pub aheading-stop : (s : Bool) → s ≡ stops (partAt index text j) → s ≡ true → Ahead index text a b n
+    pub aheading-stop : (s : Bool) → s ≡ stops (partAt image index j) → s ≡ true → Ahead image index a b n
     aheading-stop s e q = record { sum = omega (arith, rw q at (ahead-step s e)); few = ahead-few }
 
     pub aheading-less : (next : ℕ) → next ≡ endAt index j → b - next < b - j
     aheading-less = passing-less (K .pass) lt
 
-    pub aheading-fits : (f e : ℕ) → f ≡ spaceIn (partAt index text j) → e ≡ errorIn (partAt index text j) → n + f + e ≤ length text + length index
+    pub aheading-fits : (f e : ℕ) → f ≡ spaceIn (partAt image index j) → e ≡ errorIn (partAt image index j) → n + f + e ≤ length image + length index
     aheading-fits f e p q = passing-fits (K .pass) lt n f e (K .few) p q
 
-    pub aheading-more : (s : Bool) (f e m n′ next : ℕ) → s ≡ stops (partAt index text j) → s ≡ false → f ≡ spaceIn (partAt index text j) → e ≡ errorIn (partAt index text j)
-        → m ≡ n + f → n′ ≡ m + e → next ≡ endAt index j → Aheading index text a b n′ next
+    pub aheading-more : (s : Bool) (f e m n′ next : ℕ) → s ≡ stops (partAt image index j) → s ≡ false → f ≡ spaceIn (partAt image index j) → e ≡ errorIn (partAt image index j)
+        → m ≡ n + f → n′ ≡ m + e → next ≡ endAt index j → Aheading index image a b n′ next
     aheading-more s f e m n′ next p q u v i x z =
         let g : j < endAt index j = passing-past (K .pass) lt in
-        let o : spaceIn (partAt index text j) + startAt index j ≤ startAt index (endAt index j) = passing-space (K .pass) lt in
-        let r : n + (spaceIn (partAt index text j) + errorIn (partAt index text j) + newlinesBefore (allOf notes (partsFrom index text (endAt index j) b))) ≡ newlinesBefore (allOf notes (partsFrom index text a b)) = rw q at (ahead-step s p) in
-        rw z (record { pass = passing-more (K .pass) lt; rest = omega (arith, r); few = omega (arith, K .few, error-few (partAt index text j)) })
+        let o : spaceIn (partAt image index j) + startAt index j ≤ startAt index (endAt index j) = passing-space (K .pass) lt in
+        let r : n + (spaceIn (partAt image index j) + errorIn (partAt image index j) + newlinesBefore (allOf notes (partsFrom image index (endAt index j) b))) ≡ newlinesBefore (allOf notes (partsFrom image index a b)) = rw q at (ahead-step s p) in
+        rw z (record { pass = passing-more (K .pass) lt; rest = omega (arith, r); few = omega (arith, K .few, error-few (partAt image index j)) })
 
 -- ---- the sums of a gap
 
-module _ (index text : List ℕ) (s : Span) (x y : ℕ) (h : Errors index text (s .from) (s .cut) x) (k : Ahead index text (s .cut) (s .to) y) where
-  pub waiting-both : (r : ℕ) → r ≡ x + y → r ≡ newlinesBefore (gapAt index text s .waiting)
+module _ (index image : List ℕ) (s : Span) (x y : ℕ) (h : Errors image index (s .from) (s .cut) x) (k : Ahead image index (s .cut) (s .to) y) where
+  pub waiting-both : (r : ℕ) → r ≡ x + y → r ≡ newlinesBefore (gapAt image index s .waiting)
   unfolding waitingIn
   waiting-both r e = rw (errors-front, e, h .sum, k .sum)
 
-  pub newlines-all : (z r : ℕ) → Back index text (s .from) (s .cut) z → r ≡ x + y + z → r ≡ newlinesAt (gapAt index text s)
+  pub newlines-all : (z r : ℕ) → Back image index (s .from) (s .cut) z → r ≡ x + y + z → r ≡ newlinesAt (gapAt image index s)
   newlines-all z r l e = rw (← (waiting-both (x + y) refl), e, l .sum)
 
-  pub newlines-fit : (z : ℕ) → Lies index text s → Back index text (s .from) (s .cut) z → x + y + z ≤ length text + length index
+  pub newlines-fit : (z : ℕ) → Lies image index s → Back image index (s .from) (s .cut) z → x + y + z ≤ length image + length index
   newlines-fit z r l = omega (arith, h .few, k .few, l .few, jumps-le (r .second .table) (r .second .jumps), r .second .upto, r .second .table .forward (s .to) (r .second .n) (r .second .upto) (omega arith), r .second .table .whole, r .second .table .size)
 
-  pub waiting-fits : Lies index text s → x + y ≤ length text + length index
+  pub waiting-fits : Lies image index s → x + y ≤ length image + length index
   waiting-fits r = omega (arith, h .few, k .few, jumps-le (r .second .table) (r .second .jumps), r .second .upto, r .second .table .forward (s .to) (r .second .n) (r .second .upto) (omega arith), r .second .table .whole, r .second .table .size)
 
 pub blank-is : (h : Bool) {n m : ℕ} → n ≡ m → (h && leb 2 n) ≡ (h && leb 2 m)

@@ -19,7 +19,7 @@ use Rattle.children.specs.Gaps
 pub class-of : (c : Class) (k : ℕ) (v : Kinds) (r : Bool) → v ≡ kinds c → r ≡ oneOf v k → r ≡ ofKind c k
 class-of c k v r p q = rw (← p) q
 
-pub feeds-of : (i t s : List ℕ) (j r : ℕ) → s ≡ textAt i t j → r ≡ count 10 s → r ≡ count 10 (textAt i t j)
+pub feeds-of : (i t s : List ℕ) (j r : ℕ) → s ≡ textAt t i j → r ≡ count 10 s → r ≡ count 10 (textAt t i j)
 feeds-of i t s j r p q = rw (← p) q
 
 -- ---- other_turn
@@ -42,44 +42,44 @@ other-foreign l h s k p e q = rw (p, ← e, q)
 
 -- ---- trivia_turn
 
-pub trivia-started : (i t : List ℕ) (s : Bool) (j : ℕ) → s ≡ true → 2 ≡ code (triviaTurn s (partAt i t j))
+pub trivia-started : (i t : List ℕ) (s : Bool) (j : ℕ) → s ≡ true → 2 ≡ code (triviaTurn s (partAt t i j))
 unfolding triviaTurn
 trivia-started i t s j p = rw p
 
-single-last : (i t : List ℕ) (s : Bool) (j : ℕ) → s ≡ false → oneOf (kinds Class.SingleLine) (kindAt i j) ≡ true → 1 ≡ code (triviaTurn s (partAt i t j))
+single-last : (i t : List ℕ) (s : Bool) (j : ℕ) → s ≡ false → oneOf (kinds Class.SingleLine) (kindAt i j) ≡ true → 1 ≡ code (triviaTurn s (partAt t i j))
 unfolding triviaTurn
-single-last i t s j p q = rw (p, q) (go (leb 1 (count 10 (textAt i t j))))
+single-last i t s j p q = rw (p, q) (go (leb 1 (count 10 (textAt t i j))))
   where
     go : (b : Bool) → 1 ≡ code (cond (b && false) (Gaps.on Gaps.wait) (Gaps.on Gaps.last))
     go true = refl
     go false = refl
 
-pub trivia-last : (i t : List ℕ) (s u : Bool) (j k : ℕ) → s ≡ false → k ≡ kindAt i j → u ≡ oneOf (kinds Class.SingleLine) k → u ≡ true → 1 ≡ code (triviaTurn s (partAt i t j))
+pub trivia-last : (i t : List ℕ) (s u : Bool) (j k : ℕ) → s ≡ false → k ≡ kindAt i j → u ≡ oneOf (kinds Class.SingleLine) k → u ≡ true → 1 ≡ code (triviaTurn s (partAt t i j))
 trivia-last i t s u j k p e f q = single-last i t s j p (rw (← e) (sym f ∙ q))
 
-pub trivia-breaks : (i t : List ℕ) (s u : Bool) (j k n : ℕ) → s ≡ false → k ≡ kindAt i j → u ≡ oneOf (kinds Class.SingleLine) k → u ≡ false → n ≡ count 10 (textAt i t j) → 1 ≤ n → 2 ≡ code (triviaTurn s (partAt i t j))
+pub trivia-breaks : (i t : List ℕ) (s u : Bool) (j k n : ℕ) → s ≡ false → k ≡ kindAt i j → u ≡ oneOf (kinds Class.SingleLine) k → u ≡ false → n ≡ count 10 (textAt t i j) → 1 ≤ n → 2 ≡ code (triviaTurn s (partAt t i j))
 unfolding triviaTurn
 trivia-breaks i t s u j k n p e f q g h = rw (p, ← e, ← f, q, ← g, le-leb 1 n h)
 
-pub trivia-inline : (i t : List ℕ) (s u : Bool) (j k n : ℕ) → s ≡ false → k ≡ kindAt i j → u ≡ oneOf (kinds Class.SingleLine) k → u ≡ false → n ≡ count 10 (textAt i t j) → n < 1 → 0 ≡ code (triviaTurn s (partAt i t j))
+pub trivia-inline : (i t : List ℕ) (s u : Bool) (j k n : ℕ) → s ≡ false → k ≡ kindAt i j → u ≡ oneOf (kinds Class.SingleLine) k → u ≡ false → n ≡ count 10 (textAt t i j) → n < 1 → 0 ≡ code (triviaTurn s (partAt t i j))
 unfolding triviaTurn
 trivia-inline i t s u j k n p e f q g h = rw (p, ← e, ← f, q, ← g, lt-leb 1 n h)
 
 -- ---- turn_of
 
 module _ (i t : List ℕ) (w : Kinds) (l s h : Bool) (j : ℕ) where
-  pub turn-child : (k : ℕ) (a : Bool) → k ≡ kindAt i j → a ≡ oneOf w k → a ≡ true → 6 ≡ code (turn w l s h (partAt i t j))
+  pub turn-child : (k : ℕ) (a : Bool) → k ≡ kindAt i j → a ≡ oneOf w k → a ≡ true → 6 ≡ code (turn w l s h (partAt t i j))
   unfolding turn
   turn-child k a e f q = rw (← e, ← f, q)
 
-  pub turn-trivia : (k : ℕ) (a b : Bool) (r : ℕ) → k ≡ kindAt i j → a ≡ oneOf w k → a ≡ false → b ≡ oneOf (kinds Class.Trivia) k → b ≡ true → r ≡ code (triviaTurn s (partAt i t j)) → r ≡ code (turn w l s h (partAt i t j))
+  pub turn-trivia : (k : ℕ) (a b : Bool) (r : ℕ) → k ≡ kindAt i j → a ≡ oneOf w k → a ≡ false → b ≡ oneOf (kinds Class.Trivia) k → b ≡ true → r ≡ code (triviaTurn s (partAt t i j)) → r ≡ code (turn w l s h (partAt t i j))
   unfolding turn
   turn-trivia k a b r e f q g p z = rw (← e, ← f, q, ← g, p) (rw (← e) at z)
 
-  pub turn-error : (k : ℕ) (a b d : Bool) → k ≡ kindAt i j → a ≡ oneOf w k → a ≡ false → b ≡ oneOf (kinds Class.Trivia) k → b ≡ false → d ≡ oneOf (kinds Class.CustomError) k → d ≡ true → 3 ≡ code (turn w l s h (partAt i t j))
+  pub turn-error : (k : ℕ) (a b d : Bool) → k ≡ kindAt i j → a ≡ oneOf w k → a ≡ false → b ≡ oneOf (kinds Class.Trivia) k → b ≡ false → d ≡ oneOf (kinds Class.CustomError) k → d ≡ true → 3 ≡ code (turn w l s h (partAt t i j))
   unfolding turn
   turn-error k a b d e f q g p m o = rw (← e, ← f, q, ← g, p, ← m, o)
 
-  pub turn-other : (k : ℕ) (a b d : Bool) (r : ℕ) → k ≡ kindAt i j → a ≡ oneOf w k → a ≡ false → b ≡ oneOf (kinds Class.Trivia) k → b ≡ false → d ≡ oneOf (kinds Class.CustomError) k → d ≡ false → r ≡ code (otherTurn l h k) → r ≡ code (turn w l s h (partAt i t j))
+  pub turn-other : (k : ℕ) (a b d : Bool) (r : ℕ) → k ≡ kindAt i j → a ≡ oneOf w k → a ≡ false → b ≡ oneOf (kinds Class.Trivia) k → b ≡ false → d ≡ oneOf (kinds Class.CustomError) k → d ≡ false → r ≡ code (otherTurn l h k) → r ≡ code (turn w l s h (partAt t i j))
   unfolding turn
   turn-other k a b d r e f q g p m o z = rw (← e, ← f, q, ← g, p, ← m, o) z

@@ -22,32 +22,32 @@ use Rattle.children.proofs.Lead.{whole-after}
 use Rattle.children.proofs.Stretch.{stretch-both}
 use Rattle.tree.specs.declared.class.Class.{Class}
 
-module _ {index text : List ℕ} {w : Kinds} {loose after : Bool} {from b : ℕ} {r : Span} (h : Spans index text w loose after from b r) where
+module _ {index image : List ℕ} {w : Kinds} {loose after : Bool} {from b : ℕ} {r : Span} (h : Spans image index w loose after from b r) where
   -- a gap, a child, and what is behind the child
-  pub span-child : r .end ≡ 0 → gaps w loose (not after) after (partsFrom index text from b) ≡ Gaps.child (gapAt index text r) (partAt index text (r .to)) (gaps w loose false true (partsFrom index text (endAt index (r .to)) b))
+  pub span-child : r .end ≡ 0 → gaps w loose (not after) after (partsFrom image index from b) ≡ Gaps.child (gapAt image index r) (partAt image index (r .to)) (gaps w loose false true (partsFrom image index (endAt index (r .to)) b))
   unfolding spanned
   span-child e = h .read ∙ rw (eq-eqb (r .end) 0 e)
 
   -- its end is reached from its beginning
-  pub span-reached : Stretch index text from (r .to)
+  pub span-reached : Stretch image index from (r .to)
   span-reached = rw (h .begins) at (stretch-both (h .lies .first) (h .lies .second))
 
 -- the same at the first gap of a reading with a trailing list
-module _ {index text : List ℕ} {w : Kinds} {loose : Bool} {from b : ℕ} {r : Span} (h : Leads index text w loose from b r) where
+module _ {index image : List ℕ} {w : Kinds} {loose : Bool} {from b : ℕ} {r : Span} (h : Leads image index w loose from b r) where
   -- where the next gap begins
-  pub lead-next : (next : ℕ) → r .end ≡ 0 → next ≡ endAt index (r .to) → Region index text next b
+  pub lead-next : (next : ℕ) → r .end ≡ 0 → next ≡ endAt index (r .to) → Region image index next b
   lead-next next e q = rw q (region-next (h .onward) (h .inside e))
 
   -- its end is reached from its beginning
-  pub lead-reached : Stretch index text from (r .to)
+  pub lead-reached : Stretch image index from (r .to)
   lead-reached = rw (h .begins) at (stretch-both (h .lies .first) (h .lies .second))
 
 -- A survey is the survey of the reading.
-pub survey-reading : (wanted : Class) {index text : List ℕ} {loose : Bool} {from b : ℕ} {r : Outline} → Surveyed index text (kinds wanted) loose from b r
-    → sumsOf (pass wanted loose (partsFrom index text from b) (start none)) ≡ surveyed index text r
+pub survey-reading : (wanted : Class) {index image : List ℕ} {loose : Bool} {from b : ℕ} {r : Outline} → Surveyed image index (kinds wanted) loose from b r
+    → sumsOf (pass wanted loose (partsFrom image index from b) (start none)) ≡ surveyed image index r
 survey-reading wanted h = ap sumsOf (whole wanted _ _) ∙ sym (whole-sums _) ∙ h .read
 
 -- And that of a reading with a trailing list.
-pub survey-after-reading : (wanted : Class) {index text : List ℕ} {loose : Bool} {t : Span} {from b : ℕ} {r : Outline} → SurveyedAfter index text (kinds wanted) loose t from b r
-    → sumsOf (pass wanted loose (partsFrom index text from b) (start (some (gapAt index text t .waiting)))) ≡ surveyed index text r
+pub survey-after-reading : (wanted : Class) {index image : List ℕ} {loose : Bool} {t : Span} {from b : ℕ} {r : Outline} → SurveyedAfter image index (kinds wanted) loose t from b r
+    → sumsOf (pass wanted loose (partsFrom image index from b) (start (some (gapAt image index t .waiting)))) ≡ surveyed image index r
 survey-after-reading wanted h = ap sumsOf (whole-after wanted _ _ _) ∙ h .read

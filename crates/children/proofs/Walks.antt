@@ -12,11 +12,11 @@ use Rattle.tree.proofs.Siblings.{parts-next, parts-over}
 use Rattle.children.specs.Stretch.{Stretch, Jumps, here, jump}
 use Rattle.children.proofs.Stretch.{jumps-le}
 
-module _ {index text : List ℕ} {n : ℕ} (t : Table index text n) where
+module _ {index image : List ℕ} {n : ℕ} (t : Table image index n) where
   -- one element more behind
-  pub parts-more : {a j : ℕ} → Jumps index n a j → j < n → partsFrom index text a (endAt index j) ≡ partsFrom index text a j ++ partAt index text j ∷ []
+  pub parts-more : {a j : ℕ} → Jumps index n a j → j < n → partsFrom image index a (endAt index j) ≡ partsFrom image index a j ++ partAt image index j ∷ []
   parts-more (here {a}) g =
-      rw (parts-next t a (endAt index a) (t .inside a g) (t .past a g), parts-over index text (endAt index a) (endAt index a) (omega arith), parts-over index text a a (omega arith))
+      rw (parts-next t a (endAt index a) (t .inside a g) (t .past a g), parts-over index image (endAt index a) (endAt index a) (omega arith), parts-over index image a a (omega arith))
   parts-more (jump {a} {j} h k) g =
       let p : a < endAt index a = t .past a h in
       let r : j < endAt index j = t .past j g in
@@ -33,5 +33,5 @@ all-more w (y ∷ ys) x = go (oneOf w (y .kind)) (all-more w ys x)
     go false e = e
 
 -- a stretch may be walked
-pub stretch-region : {index text : List ℕ} {a b : ℕ} → Stretch index text a b → Region index text a b
+pub stretch-region : {index image : List ℕ} {a b : ℕ} → Stretch image index a b → Region image index a b
 stretch-region r = record { n = r .n; table = r .table; begins = omega (arith, jumps-le (r .table) (r .jumps), r .upto); ends = r .upto }

@@ -38,19 +38,19 @@ toAt none from b = b
 toAt (some e) from b = cond (ltb e from) b e
 
 -- A start and an end, if any, are among the siblings from a on that begin before b.
-pub record Ends (index text : List ℕ) (a b : ℕ) (s e : Option ℕ) : Type 0 where
-  pub region : Region index text a b
-  pub starts : (j : ℕ) → s ≡ some j → has j (partsFrom index text a b) ≡ true
-  pub ends : (j : ℕ) → e ≡ some j → has j (partsFrom index text a b) ≡ true
+pub record Ends (image index : List ℕ) (a b : ℕ) (s e : Option ℕ) : Type 0 where
+  pub region : Region image index a b
+  pub starts : (j : ℕ) → s ≡ some j → has j (partsFrom image index a b) ≡ true
+  pub ends : (j : ℕ) → e ≡ some j → has j (partsFrom image index a b) ≡ true
 
 -- r is where a reading between a start and an end begins and ends, and whether it is loose. It begins at one of the siblings from a
 -- on, or at their end.
-pub record Bounded (index text : List ℕ) (a b : ℕ) (s e : Option ℕ) (r : Bounds) : Type 0 where
-  pub region : Region index text (r .from) (r .to)
-  pub reached : Stretch index text a (r .from)
+pub record Bounded (image index : List ℕ) (a b : ℕ) (s e : Option ℕ) (r : Bounds) : Type 0 where
+  pub region : Region image index (r .from) (r .to)
+  pub reached : Stretch image index a (r .from)
   pub within : r .to ≤ b
   pub read : (wanted : Class) (x y : Option Part) (t : Option (List Part)) → numberOf x ≡ s → numberOf y ≡ e
-      → between wanted x y t (partsFrom index text a b) ≡ pass wanted (r .loose) (partsFrom index text (r .from) (r .to)) (start t)
+      → between wanted x y t (partsFrom image index a b) ≡ pass wanted (r .loose) (partsFrom image index (r .from) (r .to)) (start t)
 
 -- ---- around an expression
 
@@ -60,9 +60,9 @@ aroundAt none xs = trivia xs
 aroundAt (some n) xs = foreignAt n
 
 -- r is what x gives.
-pub record Beside (index text : List ℕ) (x : Around) (r : Notes) : Type 0 where
-  pub region : Region index text (r .from) (r .to)
-  pub read : x ≡ aroundAt (found (r .foreign)) (allOf notes (partsFrom index text (r .from) (r .to)))
+pub record Beside (image index : List ℕ) (x : Around) (r : Notes) : Type 0 where
+  pub region : Region image index (r .from) (r .to)
+  pub read : x ≡ aroundAt (found (r .foreign)) (allOf notes (partsFrom image index (r .from) (r .to)))
 
 -- trivia, a custom error or a separator: what a strict reading takes or skips
 unfoldable pub isKept : ℕ → Bool
@@ -74,6 +74,6 @@ foreignIn [] = none
 foreignIn (x ∷ xs) = cond (isKept (x .kind)) (foreignIn xs) (some (x .number))
 
 -- The trivia and custom errors that come first from a on end at r.
-pub record Led (index text : List ℕ) (a b r : ℕ) : Type 0 where
-  pub region : Region index text a r
-  pub read : leading (partsFrom index text a b) ≡ allOf notes (partsFrom index text a r)
+pub record Led (image index : List ℕ) (a b r : ℕ) : Type 0 where
+  pub region : Region image index a r
+  pub read : leading (partsFrom image index a b) ≡ allOf notes (partsFrom image index a r)

@@ -55,25 +55,25 @@ readingAfter ts (Gaps.child g x gs) = cond (isNil (g .waiting)) (readFrom (child
 
 -- the errors that three numbers mean
 abbrev pub leadAt : List ℕ → List ℕ → Span → Gap
-leadAt index text r = gapOf [] (waitingIn index text (r .from) (r .cut) (r .to)) false
+leadAt image index r = gapOf [] (waitingIn image index (r .from) (r .cut) (r .to)) false
 
 -- the gaps from that span on: as `spanned`, with the errors alone
 unfoldable pub led : List ℕ → List ℕ → Kinds → Bool → ℕ → Span → Gaps
-led index text w loose b r =
-    cond (eqb (r .end) 0) (Gaps.child (leadAt index text r) (partAt index text (r .to)) (gaps w loose false true (partsFrom index text (endAt index (r .to)) b)))
-    (cond (eqb (r .end) 1) (ending (leadAt index text r))
+led image index w loose b r =
+    cond (eqb (r .end) 0) (Gaps.child (leadAt image index r) (partAt image index (r .to)) (gaps w loose false true (partsFrom image index (endAt index (r .to)) b)))
+    (cond (eqb (r .end) 1) (ending (leadAt image index r))
     (stopped (r .to)))
 
 -- r is the first gap of a reading with a trailing list.
-pub record Leads (index text : List ℕ) (w : Kinds) (loose : Bool) (from b : ℕ) (r : Span) : Type 0 where
+pub record Leads (image index : List ℕ) (w : Kinds) (loose : Bool) (from b : ℕ) (r : Span) : Type 0 where
   pub begins : r .from ≡ from
   pub cuts : r .cut ≡ r .to
-  pub lies : Lies index text r
-  pub onward : Region index text (r .to) b
+  pub lies : Lies image index r
+  pub onward : Region image index (r .to) b
   pub inside : r .end ≡ 0 → r .to < b
-  pub read : leads w loose (partsFrom index text from b) ≡ led index text w loose b r
+  pub read : leads w loose (partsFrom image index from b) ≡ led image index w loose b r
 
 -- r is the survey of a reading from `from` up to b whose trailing list is what waits in the gap t.
-pub record SurveyedAfter (index text : List ℕ) (w : Kinds) (loose : Bool) (t : Span) (from b : ℕ) (r : Outline) : Type 0 where
-  pub lies : Lies index text (r .last)
-  pub read : sumsOf (readingAfter (gapAt index text t .waiting) (leads w loose (partsFrom index text from b))) ≡ surveyed index text r
+pub record SurveyedAfter (image index : List ℕ) (w : Kinds) (loose : Bool) (t : Span) (from b : ℕ) (r : Outline) : Type 0 where
+  pub lies : Lies image index (r .last)
+  pub read : sumsOf (readingAfter (gapAt image index t .waiting) (leads w loose (partsFrom image index from b))) ≡ surveyed image index r

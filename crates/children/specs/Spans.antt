@@ -17,63 +17,63 @@ use Rattle.children.specs.Stretch.{Stretch, notes, inlineIn, waitingIn}
 
 -- the gap that three numbers mean
 abbrev pub gapAt : List ℕ → List ℕ → Span → Gap
-gapAt index text r = gapOf (inlineIn index text (r .from) (r .cut)) (waitingIn index text (r .from) (r .cut) (r .to)) (r .had)
+gapAt image index r = gapOf (inlineIn image index (r .from) (r .cut)) (waitingIn image index (r .from) (r .cut) (r .to)) (r .had)
 
 -- the gaps from a span on: it and a child, with the gaps behind that child; it alone, the last; or a foreign element
 unfoldable pub spanned : List ℕ → List ℕ → Kinds → Bool → ℕ → Span → Gaps
-spanned index text w loose b r =
-    cond (eqb (r .end) 0) (Gaps.child (gapAt index text r) (partAt index text (r .to)) (gaps w loose false true (partsFrom index text (endAt index (r .to)) b)))
-    (cond (eqb (r .end) 1) (ending (gapAt index text r))
+spanned image index w loose b r =
+    cond (eqb (r .end) 0) (Gaps.child (gapAt image index r) (partAt image index (r .to)) (gaps w loose false true (partsFrom image index (endAt index (r .to)) b)))
+    (cond (eqb (r .end) 1) (ending (gapAt image index r))
     (stopped (r .to)))
 
 -- The numbers of a gap are reached one from another.
-pub record Lies (index text : List ℕ) (r : Span) : Type 0 where
-  pub first : Stretch index text (r .from) (r .cut)
-  pub second : Stretch index text (r .cut) (r .to)
+pub record Lies (image index : List ℕ) (r : Span) : Type 0 where
+  pub first : Stretch image index (r .from) (r .cut)
+  pub second : Stretch image index (r .cut) (r .to)
 
 -- r is the gap at `from` of a reading up to b, behind a child or at the reading's start.
-pub record Spans (index text : List ℕ) (w : Kinds) (loose after : Bool) (from b : ℕ) (r : Span) : Type 0 where
+pub record Spans (image index : List ℕ) (w : Kinds) (loose after : Bool) (from b : ℕ) (r : Span) : Type 0 where
   pub begins : r .from ≡ from
-  pub lies : Lies index text r
-  pub onward : Region index text (r .to) b
+  pub lies : Lies image index r
+  pub onward : Region image index (r .to) b
   pub inside : r .end ≡ 0 → r .to < b
-  pub read : gaps w loose (not after) after (partsFrom index text from b) ≡ spanned index text w loose b r
+  pub read : gaps w loose (not after) after (partsFrom image index from b) ≡ spanned image index w loose b r
 
 -- n custom errors stand from a to b
-pub record Errors (index text : List ℕ) (a b n : ℕ) : Type 0 where
-  pub sum : n ≡ length (allOf (kinds Class.CustomError) (partsFrom index text a b))
+pub record Errors (image index : List ℕ) (a b n : ℕ) : Type 0 where
+  pub sum : n ≡ length (allOf (kinds Class.CustomError) (partsFrom image index a b))
   pub few : n ≤ b
 
 -- the newlines of the inline trivia from a to b, n in all
-pub record Back (index text : List ℕ) (a b n : ℕ) : Type 0 where
-  pub sum : n ≡ newlinesBack (reverse (inlineIn index text a b))
+pub record Back (image index : List ℕ) (a b n : ℕ) : Type 0 where
+  pub sum : n ≡ newlinesBack (reverse (inlineIn image index a b))
   pub few : n + startAt index a ≤ startAt index b + b
 
 -- the newlines that stand behind a gap's cut, n in all
-pub record Ahead (index text : List ℕ) (a b n : ℕ) : Type 0 where
-  pub sum : n ≡ newlinesBefore (allOf notes (partsFrom index text a b))
+pub record Ahead (image index : List ℕ) (a b n : ℕ) : Type 0 where
+  pub sum : n ≡ newlinesBefore (allOf notes (partsFrom image index a b))
   pub few : n + startAt index a ≤ startAt index b + b
 
 -- A survey may go on at the gap s, behind k children.
-pub record Surveying (index text : List ℕ) (b : ℕ) (s : Span) (k : ℕ) : Type 0 where
-  pub lies : Lies index text s
-  pub onward : Region index text (s .to) b
+pub record Surveying (image index : List ℕ) (b : ℕ) (s : Span) (k : ℕ) : Type 0 where
+  pub lies : Lies image index s
+  pub onward : Region image index (s .to) b
   pub inside : s .end ≡ 0 → s .to < b
   pub few : k ≤ s .to
 
 -- what a survey says of a reading
 unfoldable pub surveyed : List ℕ → List ℕ → Outline → Sums
-surveyed index text r =
+surveyed image index r =
     cond (eqb (r .last .end) 1)
-    (sums (r .children) (r .many) (r .blank) (gapAt index text (r .last) .waiting))
+    (sums (r .children) (r .many) (r .blank) (gapAt image index (r .last) .waiting))
     (foreignAt (r .last .to))
 
 -- r is the survey of the gaps from s on, behind k children of which one triggers many lines or none.
-pub record SurveyedFrom (index text : List ℕ) (w : Kinds) (loose : Bool) (b : ℕ) (s : Span) (k : ℕ) (m : Bool) (r : Outline) : Type 0 where
-  pub lies : Lies index text (r .last)
-  pub read : gapSums k m (spanned index text w loose b s) ≡ surveyed index text r
+pub record SurveyedFrom (image index : List ℕ) (w : Kinds) (loose : Bool) (b : ℕ) (s : Span) (k : ℕ) (m : Bool) (r : Outline) : Type 0 where
+  pub lies : Lies image index (r .last)
+  pub read : gapSums k m (spanned image index w loose b s) ≡ surveyed image index r
 
 -- r is the survey of a reading from `from` up to b.
-pub record Surveyed (index text : List ℕ) (w : Kinds) (loose : Bool) (from b : ℕ) (r : Outline) : Type 0 where
-  pub lies : Lies index text (r .last)
-  pub read : gapSums 0 false (gaps w loose true false (partsFrom index text from b)) ≡ surveyed index text r
+pub record Surveyed (image index : List ℕ) (w : Kinds) (loose : Bool) (from b : ℕ) (r : Outline) : Type 0 where
+  pub lies : Lies image index (r .last)
+  pub read : gapSums 0 false (gaps w loose true false (partsFrom image index from b)) ≡ surveyed image index r

@@ -13,11 +13,11 @@ notes = from 64 72
 
 -- the inline trivia of a gap from a with its cut at c
 unfoldable pub inlineIn : List ℕ → List ℕ → ℕ → ℕ → List Part
-inlineIn index text a c = allOf (kinds Class.Trivia) (partsFrom index text a c)
+inlineIn image index a c = allOf (kinds Class.Trivia) (partsFrom image index a c)
 
 -- what waits in a gap from a to b with its cut at c: every custom error, and the trivia behind the cut
 unfoldable pub waitingIn : List ℕ → List ℕ → ℕ → ℕ → ℕ → List Part
-waitingIn index text a c b = allOf (kinds Class.CustomError) (partsFrom index text a c) ++ allOf notes (partsFrom index text c b)
+waitingIn image index a c b = allOf (kinds Class.CustomError) (partsFrom image index a c) ++ allOf notes (partsFrom image index c b)
 
 -- j is reached from a by jumps to the ends of elements
 pub data Jumps (index : List ℕ) (n : ℕ) : ℕ → ℕ → Type 0 where
@@ -25,8 +25,8 @@ pub data Jumps (index : List ℕ) (n : ℕ) : ℕ → ℕ → Type 0 where
   jump : {a j : ℕ} → a < n → Jumps index n (endAt index a) j → Jumps index n a j
 
 -- b is reached from a by jumps, in an index of a tree.
-pub record Stretch (index text : List ℕ) (a b : ℕ) : Type 0 where
+pub record Stretch (image index : List ℕ) (a b : ℕ) : Type 0 where
   pub n : ℕ
-  pub table : Table index text n
+  pub table : Table image index n
   pub upto : b ≤ n
   pub jumps : Jumps index n a b

@@ -33,9 +33,9 @@ fn is_kept(k: u32) -> bool
 }
 
 // The first foreign element from a on that begins before b.
-fn foreign_of(index: &[u32], text: &[u8], a: u32, b: u32) -> Found
-    requires { ⌜ Region (now index) (now text) a b ⌝ }
-    ensures { λ r. ⌜ found r ≡ foreignIn (partsFrom (now (index .entry)) (now (text .entry)) a b) ⌝ }
+fn foreign_of(image: &[u8], index: &[u32], a: u32, b: u32) -> Found
+    requires { ⌜ Region (now image) (now index) a b ⌝ }
+    ensures { λ r. ⌜ found r ≡ foreignIn (partsFrom (now (image .entry)) (now (index .entry)) a b) ⌝ }
 {
     let mut j = a;
     while j < b {
@@ -48,11 +48,11 @@ fn foreign_of(index: &[u32], text: &[u8], a: u32, b: u32) -> Found
 }
 
 // The trivia and custom errors from a on that begin before b, which is a strict reading.
-fn strict_notes(index: &[u32], text: &[u8], a: u32, b: u32) -> Notes
-    requires { ⌜ Region (now index) (now text) a b ⌝ }
-    ensures { λ r. ⌜ Beside (now (index .entry)) (now (text .entry)) (strict (partsFrom (now (index .entry)) (now (text .entry)) a b)) r ⌝ }
+fn strict_notes(image: &[u8], index: &[u32], a: u32, b: u32) -> Notes
+    requires { ⌜ Region (now image) (now index) a b ⌝ }
+    ensures { λ r. ⌜ Beside (now (image .entry)) (now (index .entry)) (strict (partsFrom (now (image .entry)) (now (index .entry)) a b)) r ⌝ }
 {
-    let foreign = foreign_of(index, text, a, b);
+    let foreign = foreign_of(image, index, a, b);
     Notes {
         from: a,
         to: b,
@@ -61,9 +61,9 @@ fn strict_notes(index: &[u32], text: &[u8], a: u32, b: u32) -> Notes
 }
 
 // Where the trivia and custom errors end that come first from a on.
-fn leading_end(index: &[u32], text: &[u8], a: u32, b: u32) -> u32
-    requires { ⌜ Region (now index) (now text) a b ⌝ }
-    ensures { λ r. ⌜ Led (now (index .entry)) (now (text .entry)) a b r ⌝ }
+fn leading_end(image: &[u8], index: &[u32], a: u32, b: u32) -> u32
+    requires { ⌜ Region (now image) (now index) a b ⌝ }
+    ensures { λ r. ⌜ Led (now (image .entry)) (now (index .entry)) a b r ⌝ }
 {
     let w = note_kinds();
     let mut j = a;
@@ -77,14 +77,14 @@ fn leading_end(index: &[u32], text: &[u8], a: u32, b: u32) -> u32
 }
 
 // The trivia before an expression among the elements from a on that begin before b; without one, the trivia that comes first.
-pub fn trivia_before(index: &[u32], text: &[u8], e: Found, a: u32, b: u32) -> Notes
-    requires { ⌜ Ends (now index) (now text) a b (found e) none ⌝ }
-    ensures { λ r. ⌜ ((x : Option Part) → numberOf x ≡ found e → Beside (now (index .entry)) (now (text .entry)) (triviaBefore x (partsFrom (now (index .entry)) (now (text .entry)) a b)) r) ⌝ }
+pub fn trivia_before(image: &[u8], index: &[u32], e: Found, a: u32, b: u32) -> Notes
+    requires { ⌜ Ends (now image) (now index) a b (found e) none ⌝ }
+    ensures { λ r. ⌜ ((x : Option Part) → numberOf x ≡ found e → Beside (now (image .entry)) (now (index .entry)) (triviaBefore x (partsFrom (now (image .entry)) (now (index .entry)) a b)) r) ⌝ }
 {
     match e {
-        Found::At(x) => strict_notes(index, text, a, x.0),
+        Found::At(x) => strict_notes(image, index, a, x.0),
         Found::Nothing => {
-            let to = leading_end(index, text, a, b);
+            let to = leading_end(image, index, a, b);
             Notes {
                 from: a,
                 to,
@@ -95,12 +95,12 @@ pub fn trivia_before(index: &[u32], text: &[u8], e: Found, a: u32, b: u32) -> No
 }
 
 // The trivia behind an expression among the elements from a on that begin before b; without one, nothing.
-pub fn trivia_after(index: &[u32], text: &[u8], e: Found, a: u32, b: u32) -> Notes
-    requires { ⌜ Ends (now index) (now text) a b (found e) none ⌝ }
-    ensures { λ r. ⌜ ((x : Option Part) → numberOf x ≡ found e → Beside (now (index .entry)) (now (text .entry)) (triviaAfter x (partsFrom (now (index .entry)) (now (text .entry)) a b)) r) ⌝ }
+pub fn trivia_after(image: &[u8], index: &[u32], e: Found, a: u32, b: u32) -> Notes
+    requires { ⌜ Ends (now image) (now index) a b (found e) none ⌝ }
+    ensures { λ r. ⌜ ((x : Option Part) → numberOf x ≡ found e → Beside (now (image .entry)) (now (index .entry)) (triviaAfter x (partsFrom (now (image .entry)) (now (index .entry)) a b)) r) ⌝ }
 {
     match e {
-        Found::At(x) => strict_notes(index, text, end_at(index, x.0), b),
+        Found::At(x) => strict_notes(image, index, end_at(index, x.0), b),
         Found::Nothing => Notes {
             from: b,
             to: b,

@@ -1,7 +1,7 @@
 // children_between: from just behind a start to an end, each an element by its number.
-use super::survey::is_nothing;
 use tree::Found;
 use tree::access::end_at;
+use tree::is_nothing;
 ghost use mathlib.Core.Path.{_≡_};
 ghost use Rattle.tree.specs.Answer.{found};
 ghost use Rattle.children.specs.Between.{fromAt, toAt, Ends, Bounded};
@@ -40,15 +40,15 @@ fn to_of(end: Found, from: u32, b: u32) -> u32
 
 // The bounds of a reading of a node's elements, which stand from a on and begin before b.
 pub fn bounds_between(
+    image: &[u8],
     index: &[u32],
-    text: &[u8],
     start: Found,
     end: Found,
     a: u32,
     b: u32,
 ) -> Bounds
-    requires { ⌜ Ends (now index) (now text) a b (found start) (found end) ⌝ }
-    ensures { λ r. ⌜ Bounded (now (index .entry)) (now (text .entry)) a b (found start) (found end) r ⌝ }
+    requires { ⌜ Ends (now image) (now index) a b (found start) (found end) ⌝ }
+    ensures { λ r. ⌜ Bounded (now (image .entry)) (now (index .entry)) a b (found start) (found end) r ⌝ }
 {
     let from = from_of(index, start, a);
     let to = to_of(end, from, b);

@@ -38,23 +38,23 @@ fn pick(b: bool, x: u32, y: u32) -> u32
 
 // The gap that begins at from, of a reading up to b: behind a child, or (not after) at the reading's start.
 pub fn gap(
+    image: &[u8],
     index: &[u32],
-    text: &[u8],
     w: Kinds,
     loose: bool,
     after: bool,
     from: u32,
     b: u32,
 ) -> Span
-    requires { ⌜ Region (now index) (now text) from b ⌝ }
-    ensures { λ r. ⌜ Spans (now (index .entry)) (now (text .entry)) w loose after from b r ⌝ }
+    requires { ⌜ Region (now image) (now index) from b ⌝ }
+    ensures { λ r. ⌜ Spans (now (image .entry)) (now (index .entry)) w loose after from b r ⌝ }
 {
     let mut started = !after;
     let mut had = after;
     let mut cut = from;
     let mut j = from;
     while j < b {
-        let t = turn_of(index, text, w, loose, started, had, j);
+        let t = turn_of(image, index, w, loose, started, had, j);
         if t >= STOP {
             return Span {
                 from,
@@ -81,13 +81,13 @@ pub fn gap(
 }
 
 // The first gap of a reading that is handed a trailing list: it holds errors only, and cut and to are one.
-pub fn lead(index: &[u32], text: &[u8], w: Kinds, loose: bool, from: u32, b: u32) -> Span
-    requires { ⌜ Region (now index) (now text) from b ⌝ }
-    ensures { λ r. ⌜ Leads (now (index .entry)) (now (text .entry)) w loose from b r ⌝ }
+pub fn lead(image: &[u8], index: &[u32], w: Kinds, loose: bool, from: u32, b: u32) -> Span
+    requires { ⌜ Region (now image) (now index) from b ⌝ }
+    ensures { λ r. ⌜ Leads (now (image .entry)) (now (index .entry)) w loose from b r ⌝ }
 {
     let mut j = from;
     while j < b {
-        let t = turn_of(index, text, w, loose, true, false, j);
+        let t = turn_of(image, index, w, loose, true, false, j);
         if t >= STOP {
             return Span {
                 from,

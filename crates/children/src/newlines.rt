@@ -18,11 +18,11 @@ ghost use Rattle.children.specs.Spans.{Lies, gapAt, Errors, Back, Ahead}
 const WHITESPACE: u32 = 64;
 
 // The line feeds of element j, if it is whitespace.
-fn space_of(index: &[u32], text: &[u8], j: u32) -> usize
-    ensures { λ r. ⌜ r ≡ spaceIn (partAt (now (index .entry)) (now (text .entry)) j) ⌝ }
+fn space_of(image: &[u8], index: &[u32], j: u32) -> usize
+    ensures { λ r. ⌜ r ≡ spaceIn (partAt (now (image .entry)) (now (index .entry)) j) ⌝ }
 {
     if kind_at(index, j) == WHITESPACE {
-        return line_feeds_of(index, text, j);
+        return line_feeds_of(image, index, j);
     }
     0
 }
@@ -35,15 +35,15 @@ fn pick(b: bool, x: usize, y: usize) -> usize
 }
 
 // 1 if element j is a custom error.
-fn error_of(index: &[u32], text: &[u8], j: u32) -> usize
-    ensures { λ r. ⌜ r ≡ errorIn (partAt (now (index .entry)) (now (text .entry)) j) ⌝ }
+fn error_of(image: &[u8], index: &[u32], j: u32) -> usize
+    ensures { λ r. ⌜ r ≡ errorIn (partAt (now (image .entry)) (now (index .entry)) j) ⌝ }
 {
     pick(of_class(Class::CustomError, kind_at(index, j)), 1, 0)
 }
 
 // Whether element j is trivia, but no whitespace.
-fn stops_at(index: &[u32], text: &[u8], j: u32) -> bool
-    ensures { λ r. ⌜ r ≡ stops (partAt (now (index .entry)) (now (text .entry)) j) ⌝ }
+fn stops_at(image: &[u8], index: &[u32], j: u32) -> bool
+    ensures { λ r. ⌜ r ≡ stops (partAt (now (image .entry)) (now (index .entry)) j) ⌝ }
 {
     let k = kind_at(index, j);
     let trivia = of_class(Class::Trivia, k);
@@ -51,14 +51,14 @@ fn stops_at(index: &[u32], text: &[u8], j: u32) -> bool
 }
 
 // How many custom errors stand from a to b.
-fn errors(index: &[u32], text: &[u8], a: u32, b: u32) -> usize
-    requires { ⌜ Stretch (now index) (now text) a b ⌝ }
-    ensures { λ r. ⌜ Errors (now (index .entry)) (now (text .entry)) a b r ⌝ }
+fn errors(image: &[u8], index: &[u32], a: u32, b: u32) -> usize
+    requires { ⌜ Stretch (now image) (now index) a b ⌝ }
+    ensures { λ r. ⌜ Errors (now (image .entry)) (now (index .entry)) a b r ⌝ }
 {
     let mut n = 0;
     let mut j = a;
     while j < b {
-        n = n + error_of(index, text, j);
+        n = n + error_of(image, index, j);
         j = end_at(index, j);
     }
     n
@@ -66,15 +66,15 @@ fn errors(index: &[u32], text: &[u8], a: u32, b: u32) -> usize
 
 // The newlines of the inline trivia from a to b, as they are counted from behind: a single-line comment is 1, and what
 // stands before it does not count.
-fn back(index: &[u32], text: &[u8], a: u32, b: u32) -> usize
-    requires { ⌜ Stretch (now index) (now text) a b ⌝ }
-    ensures { λ r. ⌜ Back (now (index .entry)) (now (text .entry)) a b r ⌝ }
+fn back(image: &[u8], index: &[u32], a: u32, b: u32) -> usize
+    requires { ⌜ Stretch (now image) (now index) a b ⌝ }
+    ensures { λ r. ⌜ Back (now (image .entry)) (now (index .entry)) a b r ⌝ }
 {
     let mut n = 0;
     let mut j = a;
     while j < b {
         let single = of_class(Class::SingleLine, kind_at(index, j));
-        let f = space_of(index, text, j);
+        let f = space_of(image, index, j);
         n = pick(single, 1, f + n);
         j = end_at(index, j);
     }
@@ -82,18 +82,18 @@ fn back(index: &[u32], text: &[u8], a: u32, b: u32) -> usize
 }
 
 // The newlines of what waits from a to b, up to the first trivia that is no whitespace.
-fn ahead(index: &[u32], text: &[u8], a: u32, b: u32) -> usize
-    requires { ⌜ Stretch (now index) (now text) a b ⌝ }
-    ensures { λ r. ⌜ Ahead (now (index .entry)) (now (text .entry)) a b r ⌝ }
+fn ahead(image: &[u8], index: &[u32], a: u32, b: u32) -> usize
+    requires { ⌜ Stretch (now image) (now index) a b ⌝ }
+    ensures { λ r. ⌜ Ahead (now (image .entry)) (now (index .entry)) a b r ⌝ }
 {
     let mut n = 0;
     let mut j = a;
     while j < b {
-        if stops_at(index, text, j) {
+        if stops_at(image, index, j) {
             return n;
         }
-        let f = space_of(index, text, j);
-        let e = error_of(index, text, j);
+        let f = space_of(image, index, j);
+        let e = error_of(image, index, j);
         n = n + f + e;
         j = end_at(index, j);
     }
@@ -101,31 +101,31 @@ fn ahead(index: &[u32], text: &[u8], a: u32, b: u32) -> usize
 }
 
 // The newlines of what waits in a gap.
-pub fn waiting_newlines(index: &[u32], text: &[u8], s: Span) -> usize
-    requires { ⌜ Lies (now index) (now text) s ⌝ }
-    ensures { λ r. ⌜ r ≡ newlinesBefore (gapAt (now (index .entry)) (now (text .entry)) s .waiting) ⌝ }
+pub fn waiting_newlines(image: &[u8], index: &[u32], s: Span) -> usize
+    requires { ⌜ Lies (now image) (now index) s ⌝ }
+    ensures { λ r. ⌜ r ≡ newlinesBefore (gapAt (now (image .entry)) (now (index .entry)) s .waiting) ⌝ }
 {
-    let x = errors(index, text, s.from, s.cut);
-    let y = ahead(index, text, s.cut, s.to);
+    let x = errors(image, index, s.from, s.cut);
+    let y = ahead(image, index, s.cut, s.to);
     x + y
 }
 
 // The newlines of a gap: two or more ask for a blank line, one or more for many lines.
-pub fn newlines_at(index: &[u32], text: &[u8], s: Span) -> usize
-    requires { ⌜ Lies (now index) (now text) s ⌝ }
-    ensures { λ r. ⌜ r ≡ newlinesAt (gapAt (now (index .entry)) (now (text .entry)) s) ⌝ }
+pub fn newlines_at(image: &[u8], index: &[u32], s: Span) -> usize
+    requires { ⌜ Lies (now image) (now index) s ⌝ }
+    ensures { λ r. ⌜ r ≡ newlinesAt (gapAt (now (image .entry)) (now (index .entry)) s) ⌝ }
 {
-    let x = errors(index, text, s.from, s.cut);
-    let y = ahead(index, text, s.cut, s.to);
-    let z = back(index, text, s.from, s.cut);
+    let x = errors(image, index, s.from, s.cut);
+    let y = ahead(image, index, s.cut, s.to);
+    let z = back(image, index, s.from, s.cut);
     x + y + z
 }
 
 // Whether the child behind a gap asks for a blank line.
-pub fn blank_line(index: &[u32], text: &[u8], s: Span) -> bool
-    requires { ⌜ Lies (now index) (now text) s ⌝ }
-    ensures { λ r. ⌜ r ≡ (s .had && leb 2 (newlinesAt (gapAt (now (index .entry)) (now (text .entry)) s))) ⌝ }
+pub fn blank_line(image: &[u8], index: &[u32], s: Span) -> bool
+    requires { ⌜ Lies (now image) (now index) s ⌝ }
+    ensures { λ r. ⌜ r ≡ (s .had && leb 2 (newlinesAt (gapAt (now (image .entry)) (now (index .entry)) s))) ⌝ }
 {
-    let n = newlines_at(index, text, s);
+    let n = newlines_at(image, index, s);
     s.had & (n >= 2)
 }

@@ -24,18 +24,18 @@ ghost use Rattle.children.specs.Spans.{Lies, gapAt};
 fn print_one(
     records: &mut [u32],
     texts: &mut [u8],
+    image: &[u8],
     index: &[u32],
-    text: &[u8],
     w: Kinds,
     j: u32,
     loc: CommentLocation,
     p: Printed,
 ) -> Printed
-    ensures { λ r. ⌜ PrintsIn records texts p r (comments (allOf w (partAt (now (index .entry)) (now (text .entry)) j ∷ [])) (place loc)) ⌝ }
+    ensures { λ r. ⌜ PrintsIn records texts p r (comments (allOf w (partAt (now (image .entry)) (now (index .entry)) j ∷ [])) (place loc)) ⌝ }
 {
     let k = kind_at(index, j);
     if is(w, k) {
-        let s = text_at(index, text, j);
+        let s = text_at(image, index, j);
         return format_comment(records, texts, k, s, loc, p);
     }
     p
@@ -45,21 +45,21 @@ fn print_one(
 fn print_all(
     records: &mut [u32],
     texts: &mut [u8],
+    image: &[u8],
     index: &[u32],
-    text: &[u8],
     w: Kinds,
     a: u32,
     b: u32,
     loc: CommentLocation,
     p: Printed,
 ) -> Printed
-    requires { ⌜ Region (now index) (now text) a b ⌝ }
-    ensures { λ r. ⌜ PrintsIn records texts p r (comments (allOf w (partsFrom (now (index .entry)) (now (text .entry)) a b)) (place loc)) ⌝ }
+    requires { ⌜ Region (now image) (now index) a b ⌝ }
+    ensures { λ r. ⌜ PrintsIn records texts p r (comments (allOf w (partsFrom (now (image .entry)) (now (index .entry)) a b)) (place loc)) ⌝ }
 {
     let mut q = p;
     let mut j = a;
     while j < b {
-        q = print_one(records, texts, index, text, w, j, loc, q);
+        q = print_one(records, texts, image, index, w, j, loc, q);
         j = end_at(index, j);
     }
     q
@@ -69,52 +69,52 @@ fn print_all(
 pub fn print_inline(
     records: &mut [u32],
     texts: &mut [u8],
+    image: &[u8],
     index: &[u32],
-    text: &[u8],
     s: Span,
     loc: CommentLocation,
     p: Printed,
 ) -> Printed
-    requires { ⌜ Lies (now index) (now text) s ⌝ }
-    ensures { λ r. ⌜ PrintsIn records texts p r (comments (gapAt (now (index .entry)) (now (text .entry)) s .inline) (place loc)) ⌝ }
+    requires { ⌜ Lies (now image) (now index) s ⌝ }
+    ensures { λ r. ⌜ PrintsIn records texts p r (comments (gapAt (now (image .entry)) (now (index .entry)) s .inline) (place loc)) ⌝ }
 {
     let w = kinds_of(Class::Trivia);
-    print_all(records, texts, index, text, w, s.from, s.cut, loc, p)
+    print_all(records, texts, image, index, w, s.from, s.cut, loc, p)
 }
 
 // Prints what waits in a gap: the custom errors before the cut, and all behind it.
 pub fn print_waiting(
     records: &mut [u32],
     texts: &mut [u8],
+    image: &[u8],
     index: &[u32],
-    text: &[u8],
     s: Span,
     loc: CommentLocation,
     p: Printed,
 ) -> Printed
-    requires { ⌜ Lies (now index) (now text) s ⌝ }
-    ensures { λ r. ⌜ PrintsIn records texts p r (comments (gapAt (now (index .entry)) (now (text .entry)) s .waiting) (place loc)) ⌝ }
+    requires { ⌜ Lies (now image) (now index) s ⌝ }
+    ensures { λ r. ⌜ PrintsIn records texts p r (comments (gapAt (now (image .entry)) (now (index .entry)) s .waiting) (place loc)) ⌝ }
 {
     let w = kinds_of(Class::CustomError);
-    let q = print_all(records, texts, index, text, w, s.from, s.cut, loc, p);
+    let q = print_all(records, texts, image, index, w, s.from, s.cut, loc, p);
     let v = note_kinds();
-    print_all(records, texts, index, text, v, s.cut, s.to, loc, q)
+    print_all(records, texts, image, index, v, s.cut, s.to, loc, q)
 }
 
 // Prints the trivia and the custom errors from a on that begin before b.
 pub fn print_notes(
     records: &mut [u32],
     texts: &mut [u8],
+    image: &[u8],
     index: &[u32],
-    text: &[u8],
     a: u32,
     b: u32,
     loc: CommentLocation,
     p: Printed,
 ) -> Printed
-    requires { ⌜ Region (now index) (now text) a b ⌝ }
-    ensures { λ r. ⌜ PrintsIn records texts p r (comments (allOf notes (partsFrom (now (index .entry)) (now (text .entry)) a b)) (place loc)) ⌝ }
+    requires { ⌜ Region (now image) (now index) a b ⌝ }
+    ensures { λ r. ⌜ PrintsIn records texts p r (comments (allOf notes (partsFrom (now (image .entry)) (now (index .entry)) a b)) (place loc)) ⌝ }
 {
     let w = note_kinds();
-    print_all(records, texts, index, text, w, a, b, loc, p)
+    print_all(records, texts, image, index, w, a, b, loc, p)
 }

@@ -7,12 +7,12 @@ use super::gap::lead;
 use super::newlines::newlines_at;
 use super::newlines::waiting_newlines;
 use super::turn::note_kinds;
-use tree::Found;
 use tree::access::end_at;
 use tree::access::nth_of;
 use tree::class::Class;
 use tree::class::Kinds;
 use tree::class::kinds_of;
+use tree::is_nothing;
 ghost use mathlib.Core.Path.{_≡_};
 ghost use mathlib.Core.Bool.{not, false};
 ghost use Rattle.text.specs.Basic.{isNil, present};
@@ -31,38 +31,28 @@ pub struct Outline {
     pub last: Span,
 }
 
-// Whether nothing was found.
-pub fn is_nothing(f: Found) -> bool
-    ensures { λ r. ⌜ r ≡ not (present (found f)) ⌝ }
-{
-    match f {
-        Found::At(_) => false,
-        Found::Nothing => true,
-    }
-}
-
 // Whether no sibling from a up to b is of these kinds.
-fn none_of(index: &[u32], text: &[u8], w: Kinds, a: u32, b: u32) -> bool
-    requires { ⌜ Region (now index) (now text) a b ⌝ }
-    ensures { λ r. ⌜ r ≡ isNil (allOf w (partsFrom (now (index .entry)) (now (text .entry)) a b)) ⌝ }
+fn none_of(image: &[u8], index: &[u32], w: Kinds, a: u32, b: u32) -> bool
+    requires { ⌜ Region (now image) (now index) a b ⌝ }
+    ensures { λ r. ⌜ r ≡ isNil (allOf w (partsFrom (now (image .entry)) (now (index .entry)) a b)) ⌝ }
 {
-    is_nothing(nth_of(index, text, w, 0, a, b))
+    is_nothing(nth_of(image, index, w, 0, a, b))
 }
 
 // Whether nothing waits in a gap.
-pub fn nothing_waits(index: &[u32], text: &[u8], s: Span) -> bool
-    requires { ⌜ Lies (now index) (now text) s ⌝ }
-    ensures { λ r. ⌜ r ≡ isNil (gapAt (now (index .entry)) (now (text .entry)) s .waiting) ⌝ }
+pub fn nothing_waits(image: &[u8], index: &[u32], s: Span) -> bool
+    requires { ⌜ Lies (now image) (now index) s ⌝ }
+    ensures { λ r. ⌜ r ≡ isNil (gapAt (now (image .entry)) (now (index .entry)) s .waiting) ⌝ }
 {
-    let x = none_of(index, text, kinds_of(Class::CustomError), s.from, s.cut);
-    let y = none_of(index, text, note_kinds(), s.cut, s.to);
+    let x = none_of(image, index, kinds_of(Class::CustomError), s.from, s.cut);
+    let y = none_of(image, index, note_kinds(), s.cut, s.to);
     x & y
 }
 
 // The rest of a reading up to b, from a gap on, behind some children of which one triggers many lines or none.
 fn survey_from(
+    image: &[u8],
     index: &[u32],
-    text: &[u8],
     w: Kinds,
     loose: bool,
     first: Span,
@@ -70,18 +60,18 @@ fn survey_from(
     wide: bool,
     b: u32,
 ) -> Outline
-    requires { ⌜ Surveying (now index) (now text) b first before ⌝ }
-    ensures { λ r. ⌜ SurveyedFrom (now (index .entry)) (now (text .entry)) w loose b first before wide r ⌝ }
+    requires { ⌜ Surveying (now image) (now index) b first before ⌝ }
+    ensures { λ r. ⌜ SurveyedFrom (now (image .entry)) (now (index .entry)) w loose b first before wide r ⌝ }
 {
     let mut s = first;
     let mut children = before;
     let mut many = wide;
-    let mut n = newlines_at(index, text, s);
+    let mut n = newlines_at(image, index, s);
     while s.end == AT_CHILD {
         many = many | (n >= 1);
         children += 1;
-        s = gap(index, text, w, loose, true, end_at(index, s.to), b);
-        n = newlines_at(index, text, s);
+        s = gap(image, index, w, loose, true, end_at(index, s.to), b);
+        n = newlines_at(image, index, s);
     }
     Outline {
         children,
@@ -92,12 +82,12 @@ fn survey_from(
 }
 
 // The whole of a reading from `from` up to b.
-pub fn survey(index: &[u32], text: &[u8], w: Kinds, loose: bool, from: u32, b: u32) -> Outline
-    requires { ⌜ Region (now index) (now text) from b ⌝ }
-    ensures { λ r. ⌜ Surveyed (now (index .entry)) (now (text .entry)) w loose from b r ⌝ }
+pub fn survey(image: &[u8], index: &[u32], w: Kinds, loose: bool, from: u32, b: u32) -> Outline
+    requires { ⌜ Region (now image) (now index) from b ⌝ }
+    ensures { λ r. ⌜ Surveyed (now (image .entry)) (now (index .entry)) w loose from b r ⌝ }
 {
-    let s = gap(index, text, w, loose, false, from, b);
-    survey_from(index, text, w, loose, s, 0, false, b)
+    let s = gap(image, index, w, loose, false, from, b);
+    survey_from(image, index, w, loose, s, 0, false, b)
 }
 
 // A reading with no child.
@@ -127,26 +117,26 @@ fn barred(s: Span) -> Span
 
 // The whole of a reading from `from` up to b whose trailing list is what waits in the gap t.
 pub fn survey_after(
+    image: &[u8],
     index: &[u32],
-    text: &[u8],
     w: Kinds,
     loose: bool,
     t: Span,
     from: u32,
     b: u32,
 ) -> Outline
-    requires { ⌜ Region (now index) (now text) from b ⌝ }
-    requires { ⌜ Lies (now index) (now text) t ⌝ }
-    ensures { λ r. ⌜ SurveyedAfter (now (index .entry)) (now (text .entry)) w loose t from b r ⌝ }
+    requires { ⌜ Region (now image) (now index) from b ⌝ }
+    requires { ⌜ Lies (now image) (now index) t ⌝ }
+    ensures { λ r. ⌜ SurveyedAfter (now (image .entry)) (now (index .entry)) w loose t from b r ⌝ }
 {
-    let s = lead(index, text, w, loose, from, b);
+    let s = lead(image, index, w, loose, from, b);
     if s.end != AT_CHILD {
-        return alone(s, waiting_newlines(index, text, s) >= 2);
+        return alone(s, waiting_newlines(image, index, s) >= 2);
     }
-    if !nothing_waits(index, text, s) {
+    if !nothing_waits(image, index, s) {
         return alone(barred(s), false);
     }
-    let many = waiting_newlines(index, text, t) >= 1;
-    let next = gap(index, text, w, loose, true, end_at(index, s.to), b);
-    survey_from(index, text, w, loose, next, 1, many, b)
+    let many = waiting_newlines(image, index, t) >= 1;
+    let next = gap(image, index, w, loose, true, end_at(index, s.to), b);
+    survey_from(image, index, w, loose, next, 1, many, b)
 }

@@ -58,10 +58,10 @@ pub fn note_kinds() -> Kinds
 }
 
 // How many line feeds there are in the text of element i.
-pub fn line_feeds_of(index: &[u32], text: &[u8], i: u32) -> usize
-    ensures { λ r. ⌜ r ≡ count 10 (textAt (now (index .entry)) (now (text .entry)) i) ⌝ }
+pub fn line_feeds_of(image: &[u8], index: &[u32], i: u32) -> usize
+    ensures { λ r. ⌜ r ≡ count 10 (textAt (now (image .entry)) (now (index .entry)) i) ⌝ }
 {
-    text::line_feeds(text_at(index, text, i))
+    text::line_feeds(text_at(image, index, i))
 }
 
 // Whether all is to wait from here on.
@@ -86,8 +86,8 @@ pub fn follows_by(t: u32, started: bool) -> bool
 }
 
 // What the trivia j does to a gap.
-fn trivia_turn(index: &[u32], text: &[u8], started: bool, j: u32) -> u32
-    ensures { λ r. ⌜ r ≡ code (triviaTurn started (partAt (now (index .entry)) (now (text .entry)) j)) ⌝ }
+fn trivia_turn(image: &[u8], index: &[u32], started: bool, j: u32) -> u32
+    ensures { λ r. ⌜ r ≡ code (triviaTurn started (partAt (now (image .entry)) (now (index .entry)) j)) ⌝ }
 {
     if started {
         return WAIT;
@@ -95,7 +95,7 @@ fn trivia_turn(index: &[u32], text: &[u8], started: bool, j: u32) -> u32
     if of_class(Class::SingleLine, kind_at(index, j)) {
         return LAST;
     }
-    if line_feeds_of(index, text, j) >= 1 {
+    if line_feeds_of(image, index, j) >= 1 {
         return WAIT;
     }
     INLINE
@@ -119,22 +119,22 @@ fn other_turn(loose: bool, had: bool, k: u32) -> u32
 
 // What element j does to a gap.
 pub fn turn_of(
+    image: &[u8],
     index: &[u32],
-    text: &[u8],
     w: Kinds,
     loose: bool,
     started: bool,
     had: bool,
     j: u32,
 ) -> u32
-    ensures { λ r. ⌜ r ≡ code (turn w loose started had (partAt (now (index .entry)) (now (text .entry)) j)) ⌝ }
+    ensures { λ r. ⌜ r ≡ code (turn w loose started had (partAt (now (image .entry)) (now (index .entry)) j)) ⌝ }
 {
     let k = kind_at(index, j);
     if is(w, k) {
         return CHILD;
     }
     if of_class(Class::Trivia, k) {
-        return trivia_turn(index, text, started, j);
+        return trivia_turn(image, index, started, j);
     }
     if of_class(Class::CustomError, k) {
         return ERROR;

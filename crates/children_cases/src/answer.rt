@@ -122,7 +122,7 @@ fn mix_outline(table: &[u32], o: Outline, h: u32) -> u32 {
 
 // The children from the one behind a gap on: number, blank line, many lines, what waited, what is inline.
 fn mix_walk(table: &[u32], text: &[u8], w: Kinds, loose: bool, first: Span, b: u32, h: u32) -> u32
-    requires { ⌜ Surveying (now table) (now text) b first 0 ⌝ }
+    requires { ⌜ Surveying (now text) (now table) b first 0 ⌝ }
 {
     let mut s = first;
     let mut n = h;
@@ -138,7 +138,7 @@ fn mix_walk(table: &[u32], text: &[u8], w: Kinds, loose: bool, first: Span, b: u
 
 // A reading with no trailing list.
 fn plain(table: &[u32], text: &[u8], loose: bool, a: u32, b: u32, h: u32) -> u32
-    requires { ⌜ Region (now table) (now text) a b ⌝ }
+    requires { ⌜ Region (now text) (now table) a b ⌝ }
 {
     let w = kinds_of(Class::Expr);
     let o = survey(table, text, w, loose, a, b);
@@ -152,7 +152,7 @@ fn plain(table: &[u32], text: &[u8], loose: bool, a: u32, b: u32, h: u32) -> u32
 
 // A reading whose trailing list is what waits in the first gap of the reading without one.
 fn trailing(table: &[u32], text: &[u8], loose: bool, a: u32, b: u32, h: u32) -> u32
-    requires { ⌜ Region (now table) (now text) a b ⌝ }
+    requires { ⌜ Region (now text) (now table) a b ⌝ }
 {
     let w = kinds_of(Class::Expr);
     let t = gap(table, text, w, loose, false, a, b);

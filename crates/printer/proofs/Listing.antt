@@ -51,16 +51,16 @@ nil-length : (cs : List Child) → isNil cs ≡ eqb (length cs) 0
 nil-length [] = refl
 nil-length (c ∷ cs) = sym (ne-eqb (suc (length cs)) 0 (omega arith))
 
-module _ {index image : List ℕ} {r : Reading} {o : Outline} (x : Outlined index image r o) where
+module _ {index image : List ℕ} {r : Reading} {o : Outline} (x : Outlined image index r o) where
   -- what is behind the last child
-  ending-is : x .ending ≡ endingOf index image o
+  ending-is : x .ending ≡ endingOf image index o
   ending-is = rw (← (x .blank), ← (x .waits))
 
   -- a list is empty
-  empty-is : isEmpty (x .kids) (x .ending) ≡ ((eqb (o .children) 0 && not (o .blank)) && isNil (gapAt index image (o .last) .waiting))
+  empty-is : isEmpty (x .kids) (x .ending) ≡ ((eqb (o .children) 0 && not (o .blank)) && isNil (gapAt image index (o .last) .waiting))
   empty-is = rw (nil-length (x .kids), x .count, x .blank, x .waits) (go (eqb (o .children) 0))
     where
-      go : (a : Bool) → (a && (not (o .blank) && isNil (gapAt index image (o .last) .waiting))) ≡ ((a && not (o .blank)) && isNil (gapAt index image (o .last) .waiting))
+      go : (a : Bool) → (a && (not (o .blank) && isNil (gapAt image index (o .last) .waiting))) ≡ ((a && not (o .blank)) && isNil (gapAt image index (o .last) .waiting))
       go true = refl
       go false = refl
 
@@ -69,18 +69,18 @@ module _ (pr : ℕ → Print) (a b z : String) {r : Reading} where
   unfolding list
   list-foreign e = rw e
 
-  module _ {index image : List ℕ} {o : Outline} {t : Bool} (x : Outlined index image r o) (e : t ≡ ((eqb (o .children) 0 && not (o .blank)) && isNil (gapAt index image (o .last) .waiting))) where
+  module _ {index image : List ℕ} {o : Outline} {t : Bool} (x : Outlined image index r o) (e : t ≡ ((eqb (o .children) 0 && not (o .blank)) && isNil (gapAt image index (o .last) .waiting))) where
     pub list-empty : t ≡ true → list pr a b z r ≡ lit a
     unfolding list
     list-empty h = rw (x .is, empty-is x, ← e, h)
 
     pub list-full : t ≡ false → list pr a b z r
-        ≡ withNumber (λ k. let u = testOf (o .many || o .blank) k in openList b k u ⨟ (say group ⨟ (children pr (onLine Elements u) (behindIt Elements u) (kidsIn r) ⨟ closeList z k (endingOf index image o))))
+        ≡ withNumber (λ k. let u = testOf (o .many || o .blank) k in openList b k u ⨟ (say group ⨟ (children pr (onLine Elements u) (behindIt Elements u) (kidsIn r) ⨟ closeList z k (endingOf image index o))))
     unfolding list bracketed onLine behindIt kidsIn
     list-full h = rw (x .is, empty-is x, ← e, h) (ap withNumber (λ i k. step k i))
       where
         step : (k : ℕ) → (lit b ⨟ (say (mark (2 * k)) ⨟ (indented k (testOf (anyManyLines (x .kids) || x .ending .blankLine) k) (grouped (children pr (λ m. comma m (testOf (anyManyLines (x .kids) || x .ending .blankLine) k)) (λ m. separator (testOf (anyManyLines (x .kids) || x .ending .blankLine) k)) (x .kids))) (x .ending) ⨟ (lit z ⨟ say (mark (2 * k + 1))))))
-            ≡ openList b k (testOf (o .many || o .blank) k) ⨟ (say group ⨟ (children pr (λ m. comma m (testOf (o .many || o .blank) k)) (λ m. separator (testOf (o .many || o .blank) k)) (kidsIn (read (x .kids) (x .ending))) ⨟ closeList z k (endingOf index image o)))
+            ≡ openList b k (testOf (o .many || o .blank) k) ⨟ (say group ⨟ (children pr (λ m. comma m (testOf (o .many || o .blank) k)) (λ m. separator (testOf (o .many || o .blank) k)) (kidsIn (read (x .kids) (x .ending))) ⨟ closeList z k (endingOf image index o)))
         step k = list-flat b z k (testOf (anyManyLines (x .kids) || x .ending .blankLine) k) _ (x .ending) ∙ rw (x .many, x .blank, ending-is x) refl
 
 -- ---- arguments
@@ -90,13 +90,13 @@ module _ (pr : ℕ → Print) {r : Reading} where
   unfolding arguments
   args-foreign e = rw e
 
-  pub args-full : {index image : List ℕ} {o : Outline} → Outlined index image r o
-      → arguments pr r ≡ withNumber (λ k. let u = testOf false k in openList "(" k u ⨟ (children pr (onLine Arguments u) (behindIt Arguments u) (kidsIn r) ⨟ closeArguments ")" k (endingOf index image o)))
+  pub args-full : {index image : List ℕ} {o : Outline} → Outlined image index r o
+      → arguments pr r ≡ withNumber (λ k. let u = testOf false k in openList "(" k u ⨟ (children pr (onLine Arguments u) (behindIt Arguments u) (kidsIn r) ⨟ closeArguments ")" k (endingOf image index o)))
   unfolding arguments bracketed onLine behindIt testOf kidsIn
   args-full {index} {image} {o} x = rw (x .is) (ap withNumber (λ i k. step k i))
     where
       step : (k : ℕ) → (lit "(" ⨟ (say (mark (2 * k)) ⨟ ((shared k (lines (2 * k)) (grouped (children pr (λ m. comma m (lines (2 * k))) (λ m. when m (separator (lines (2 * k)))) (x .kids))) (say newline) none ⨟ ending (x .ending)) ⨟ (lit ")" ⨟ say (mark (2 * k + 1))))))
-          ≡ openList "(" k (lines (2 * k)) ⨟ (children pr (λ m. comma m (lines (2 * k))) (λ m. when m (separator (lines (2 * k)))) (x .kids) ⨟ closeArguments ")" k (endingOf index image o))
+          ≡ openList "(" k (lines (2 * k)) ⨟ (children pr (λ m. comma m (lines (2 * k))) (λ m. when m (separator (lines (2 * k)))) (x .kids) ⨟ closeArguments ")" k (endingOf image index o))
       step k = args-flat "(" ")" k (lines (2 * k)) _ (x .ending) ∙ rw (ending-is x) refl
 
 -- ---- object comprehensions
@@ -113,14 +113,14 @@ module _ (pr : ℕ → Print) (ps : List Part) where
   comp-foreign e = rw e
 
   -- the reading of its CompSpecs
-  module _ {index image : List ℕ} {r : Reading} {m : Outline} (x : Outlined index image r m) (q : Reading) (e : compSpecs (x .ending) ps ≡ q) where
+  module _ {index image : List ℕ} {r : Reading} {m : Outline} (x : Outlined image index r m) (q : Reading) (e : compSpecs (x .ending) ps ≡ q) where
     pub specs-foreign : {n : ℕ} → q ≡ foreign n → compOf pr ps r ≡ stopped n
     unfolding compOf compBody
     specs-foreign h = rw (x .is, e, h)
 
-    pub comp-full : {o : Outline} → Outlined index image q o
+    pub comp-full : {o : Outline} → Outlined image index q o
         → compOf pr ps r ≡ withNumber (λ k. let u = testOf (m .many || (o .many || (m .blank || o .blank))) k in
-        openList "{" k u ⨟ (say group ⨟ (children pr (onLine Members u) (behindIt Members u) (kidsIn r) ⨟ (newlineIf (m .blank) ⨟ (children pr (onLine Specs u) (behindIt Specs u) (kidsIn q) ⨟ closeList "}" k (endingOf index image o))))))
+        openList "{" k u ⨟ (say group ⨟ (children pr (onLine Members u) (behindIt Members u) (kidsIn r) ⨟ (newlineIf (m .blank) ⨟ (children pr (onLine Specs u) (behindIt Specs u) (kidsIn q) ⨟ closeList "}" k (endingOf image index o))))))
     unfolding compOf compBody bracketed onLine behindIt kidsIn
     comp-full {o} y = rw (x .is, e, y .is) (ap withNumber (λ i k. step k i))
       where
@@ -128,7 +128,7 @@ module _ (pr : ℕ → Print) (ps : List Part) where
         test k = testOf (anyManyLines (x .kids) || (anyManyLines (y .kids) || (x .ending .blankLine || y .ending .blankLine))) k
 
         step : (k : ℕ) → (lit "{" ⨟ (say (mark (2 * k)) ⨟ (indented k (test k) (grouped (children pr (λ n. onlyIf (test k) (lit ",")) (λ n. separator (test k)) (x .kids) ⨟ (newlineIf (x .ending .blankLine) ⨟ children pr (λ n. none) (λ n. separator (test k)) (y .kids)))) (y .ending) ⨟ (lit "}" ⨟ say (mark (2 * k + 1))))))
-            ≡ openList "{" k (testOf (m .many || (o .many || (m .blank || o .blank))) k) ⨟ (say group ⨟ (children pr (λ n. onlyIf (testOf (m .many || (o .many || (m .blank || o .blank))) k) (lit ",")) (λ n. separator (testOf (m .many || (o .many || (m .blank || o .blank))) k)) (x .kids) ⨟ (newlineIf (m .blank) ⨟ (children pr (λ n. none) (λ n. separator (testOf (m .many || (o .many || (m .blank || o .blank))) k)) (y .kids) ⨟ closeList "}" k (endingOf index image o)))))
+            ≡ openList "{" k (testOf (m .many || (o .many || (m .blank || o .blank))) k) ⨟ (say group ⨟ (children pr (λ n. onlyIf (testOf (m .many || (o .many || (m .blank || o .blank))) k) (lit ",")) (λ n. separator (testOf (m .many || (o .many || (m .blank || o .blank))) k)) (x .kids) ⨟ (newlineIf (m .blank) ⨟ (children pr (λ n. none) (λ n. separator (testOf (m .many || (o .many || (m .blank || o .blank))) k)) (y .kids) ⨟ closeList "}" k (endingOf image index o)))))
         step k = list-flat "{" "}" k (test k) _ (y .ending) ∙ rw (seq-assoc, seq-assoc, x .many, y .many, x .blank, y .blank, ending-is y) refl
 
 -- ---- locals
@@ -142,8 +142,8 @@ module _ (pr : ℕ → Print) {r : Reading} where
   unfolding localOf
   local-foreign e = rw e
 
-  pub local-many : (t : Test) {index image : List ℕ} {o : Outline} → Outlined index image r o → (o .children ≡ 1 → ⊥)
-      → localOf pr r ≡ (lit "local" ⨟ (say indent ⨟ say newline)) ⨟ (children pr (onLine Binds t) (behindIt Binds t) (kidsIn r) ⨟ (ending (endingOf index image o) ⨟ say outdent))
+  pub local-many : (t : Test) {index image : List ℕ} {o : Outline} → Outlined image index r o → (o .children ≡ 1 → ⊥)
+      → localOf pr r ≡ (lit "local" ⨟ (say indent ⨟ say newline)) ⨟ (children pr (onLine Binds t) (behindIt Binds t) (kidsIn r) ⨟ (ending (endingOf image index o) ⨟ say outdent))
   unfolding localOf kidsIn onLine behindIt
   local-many t {index} {image} {o} x h =
       rw (x .is) (go (x .kids) (x .count) ∙ ap (λ (e : Ending). (lit "local" ⨟ (say indent ⨟ say newline)) ⨟ (children pr (λ m. lit ",") (λ m. say newline) (x .kids) ⨟ (ending e ⨟ say outdent))) (ending-is x))

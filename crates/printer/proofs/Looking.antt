@@ -27,11 +27,11 @@ use Rattle.printer.proofs.Under.{at-region}
 
 module _ (index image : List ℕ) (i : ℕ) {a b : ℕ} (p : a ≡ i + 1) (q : b ≡ endAt index i) where
   -- the n-th part of a class
-  pub nth-found : {w : Kinds} (c : Class) {n m : ℕ} {f : Option ℕ} → w ≡ kinds c → m ≡ n → f ≡ numberOf (nthOf w m (partsFrom index image a b)) → f ≡ numberOf (nth c n (partsOf index image i))
+  pub nth-found : {w : Kinds} (c : Class) {n m : ℕ} {f : Option ℕ} → w ≡ kinds c → m ≡ n → f ≡ numberOf (nthOf w m (partsFrom image index a b)) → f ≡ numberOf (nth c n (partsOf image index i))
   nth-found c e g h = h ∙ rw (e, g, p, q)
 
   -- the last part of a class
-  pub last-found : {w : Kinds} (c : Class) {f : Option ℕ} → w ≡ kinds c → f ≡ numberOf (lastOf w (partsFrom index image a b)) → f ≡ numberOf (last c (partsOf index image i))
+  pub last-found : {w : Kinds} (c : Class) {f : Option ℕ} → w ≡ kinds c → f ≡ numberOf (lastOf w (partsFrom image index a b)) → f ≡ numberOf (last c (partsOf image index i))
   last-found c e h = h ∙ rw (e, p, q)
 
 -- the part of an entry: the wanted one
@@ -40,7 +40,7 @@ unfolding partFor
 part-wanted x ps e h = h ∙ rw (eq-eqb (x .what) 4 e)
 
 -- the `+` of a field
-pub part-plus : (x : Entry) (index image : List ℕ) (i : ℕ) {a b : ℕ} {f : Option ℕ} → (x .what ≡ 4 → ⊥) → a ≡ i + 1 → b ≡ endAt index i → f ≡ numberOf (plusOf (partsFrom index image a b)) → f ≡ numberOf (partFor x (partsOf index image i))
+pub part-plus : (x : Entry) (index image : List ℕ) (i : ℕ) {a b : ℕ} {f : Option ℕ} → (x .what ≡ 4 → ⊥) → a ≡ i + 1 → b ≡ endAt index i → f ≡ numberOf (plusOf (partsFrom image index a b)) → f ≡ numberOf (partFor x (partsOf image index i))
 unfolding partFor
 part-plus x index image i e p q h = h ∙ rw (ne-eqb (x .what) 4 e, p, q)
 
@@ -131,9 +131,9 @@ or-has nothing g e x y = rw e y
 or-has (some n) g e x y = rw e x
 
 -- a reading between two of them
-pub ends-has : {image index : List ℕ} {i a b : ℕ} {s e : Option ℕ} → At image index i → a ≡ i + 1 → b ≡ endAt index i → Has (partsOf index image i) s → Has (partsOf index image i) e → Ends index image a b s e
+pub ends-has : {image index : List ℕ} {i a b : ℕ} {s e : Option ℕ} → At image index i → a ≡ i + 1 → b ≡ endAt index i → Has (partsOf image index i) s → Has (partsOf image index i) e → Ends image index a b s e
 ends-has t p q x y = rw (p, q) (record { region = at-region t refl refl; starts = x .part; ends = y .part })
 
 -- its bounds by the parts that were found
-pub bounded-as : {image index : List ℕ} (i : ℕ) {a b : ℕ} {s e s′ e′ : Option ℕ} {z : Bounds} → a ≡ i + 1 → b ≡ endAt index i → s ≡ s′ → e ≡ e′ → Bounded index image a b s e z → Bounded index image (i + 1) (endAt index i) s′ e′ z
+pub bounded-as : {image index : List ℕ} (i : ℕ) {a b : ℕ} {s e s′ e′ : Option ℕ} {z : Bounds} → a ≡ i + 1 → b ≡ endAt index i → s ≡ s′ → e ≡ e′ → Bounded image index a b s e z → Bounded image index (i + 1) (endAt index i) s′ e′ z
 bounded-as i p q x y h = rw (← p, ← q, ← x, ← y) h

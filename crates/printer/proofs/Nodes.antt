@@ -43,20 +43,20 @@ rowed-small index i e r = rw e at (r .small)
 
 module _ {image index : List ℕ} {i k : ℕ} (t : At image index i) (e : k ≡ kindAt index i) where
   -- a token, or all tokens of a node joined
-  pub node-token : (leb 64 k || eqb k 56) ≡ true → printOf image i ≡ say (text (textAt index image i))
+  pub node-token : (leb 64 k || eqb k 56) ≡ true → printOf image i ≡ say (text (textAt image index i))
   unfolding element
   node-token h = node-is t ∙ rw (← e) (go (leb 64 k) (eqb k 56) _ h)
     where
-      go : (a b : Bool) (p : Print) → (a || b) ≡ true → cond a (say (text (textAt index image i))) (cond b (say (text (textAt index image i))) p) ≡ say (text (textAt index image i))
+      go : (a b : Bool) (p : Print) → (a || b) ≡ true → cond a (say (text (textAt image index i))) (cond b (say (text (textAt image index i))) p) ≡ say (text (textAt image index i))
       go true b p h = refl
       go false true p h = refl
       go false false p h = absurd (false≢true h)
 
   -- a node with a printer of its own: the kind computes
-  pub node-own : (n : ℕ) → k ≡ n → printOf image i ≡ element (under image i) n i (textAt index image i) (textAt index image i) (partsOf index image i)
+  pub node-own : (n : ℕ) → k ≡ n → printOf image i ≡ element (under image i) n i (textAt image index i) (textAt image index i) (partsOf image index i)
   node-own n h = node-is t ∙ rw (← e, h)
 
   -- a node with a row
-  pub node-row : Rowed k → printOf image i ≡ row (under image i) (partsOf index image i) (layout (kindAt index i))
+  pub node-row : Rowed k → printOf image i ≡ row (under image i) (partsOf image index i) (layout (kindAt index i))
   unfolding element
   node-row r = node-is t ∙ rw (← e, lt-leb 64 k (r .small), ne-eqb k 56 (r .visibility), ne-eqb k 2 (r .expr), ne-eqb k 10 (r .array), ne-eqb k 22 (r .local), ne-eqb k 26 (r .comp), ne-eqb k 27 (r .members), ne-eqb k 47 (r .args))

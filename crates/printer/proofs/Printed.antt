@@ -40,14 +40,14 @@ use Rattle.printer.proofs.Readings.{part-number}
 module _ {image index : List ℕ} (i : ℕ) where
   -- a list's reading
   pub list-reading : (l : ListKind) {a c d : Class} {z : Bounds} → a ≡ openerOf l → c ≡ closerOf l → d ≡ childOf l
-      → Bounded index image (i + 1) (endAt index i) (numberOf (first a (partsOf index image i))) (numberOf (first c (partsOf index image i))) z
-      → enclosed (childOf l) (openerOf l) (closerOf l) (partsOf index image i) ≡ readAt index image d z nothing
-  list-reading l {a} {c} {d} p q r b = rw (← p, ← q, ← r) (b .read d (first a (partsOf index image i)) (first c (partsOf index image i)) nothing refl refl)
+      → Bounded image index (i + 1) (endAt index i) (numberOf (first a (partsOf image index i))) (numberOf (first c (partsOf image index i))) z
+      → enclosed (childOf l) (openerOf l) (closerOf l) (partsOf image index i) ≡ readAt image index d z nothing
+  list-reading l {a} {c} {d} p q r b = rw (← p, ← q, ← r) (b .read d (first a (partsOf image index i)) (first c (partsOf image index i)) nothing refl refl)
 
   -- the reading between the first tokens of two classes
-  pub enclosed-reading : (w a c : Class) {z : Bounds} → Bounded index image (i + 1) (endAt index i) (numberOf (first a (partsOf index image i))) (numberOf (first c (partsOf index image i))) z
-      → enclosed w a c (partsOf index image i) ≡ readAt index image w z nothing
-  enclosed-reading w a c b = b .read w (first a (partsOf index image i)) (first c (partsOf index image i)) nothing refl refl
+  pub enclosed-reading : (w a c : Class) {z : Bounds} → Bounded image index (i + 1) (endAt index i) (numberOf (first a (partsOf image index i))) (numberOf (first c (partsOf image index i))) z
+      → enclosed w a c (partsOf image index i) ≡ readAt image index w z nothing
+  enclosed-reading w a c b = b .read w (first a (partsOf image index i)) (first c (partsOf image index i)) nothing refl refl
 
 -- ---- texts of brackets
 
@@ -70,36 +70,36 @@ right-paren = record { known = omega arith; text = refl }
 -- ---- lists
 
 module _ (pr : ℕ → Print) (a b z : String) {r q : Reading} (e : r ≡ q) where
-  pub prints-empty : {index image : List ℕ} {o : Outline} {t : Bool} {w : ℕ} {h k : Held} → Outlined index image q o → t ≡ ((eqb (o .children) 0 && not (o .blank)) && isNil (gapAt index image (o .last) .waiting)) → t ≡ true
+  pub prints-empty : {index image : List ℕ} {o : Outline} {t : Bool} {w : ℕ} {h k : Held} → Outlined image index q o → t ≡ ((eqb (o .children) 0 && not (o .blank)) && isNil (gapAt image index (o .last) .waiting)) → t ≡ true
       → Word w a → Prints (lit (wordAt w)) h k → Prints (list pr a b z r) h k
   prints-empty x f g w p = by (ap (list pr a b z) e ∙ list-empty pr a b z x f g ∙ ap lit (sym (w .text))) p
 
   pub prints-list : {index image : List ℕ} {o : Outline} {y : Bool} {k w v : ℕ} (t : Condition) {rs ts : List ℕ} {p : Printed} {h₁ h₂ h₃ h₄ : Held}
-      → Outlined index image q o → y ≡ ((eqb (o .children) 0 && not (o .blank)) && isNil (gapAt index image (o .last) .waiting)) → y ≡ false → k ≡ nextRun p → conditionTest t ≡ testOf (o .many || o .blank) k → Word w b → Word v z
+      → Outlined image index q o → y ≡ ((eqb (o .children) 0 && not (o .blank)) && isNil (gapAt image index (o .last) .waiting)) → y ≡ false → k ≡ nextRun p → conditionTest t ≡ testOf (o .many || o .blank) k → Word w b → Word v z
       → Prints (openList (wordAt w) k (conditionTest t)) (held rs ts p) h₁ → Prints (say group) h₁ h₂
-      → Prints (children pr (onLine Elements (conditionTest t)) (behindIt Elements (conditionTest t)) (kidsIn q)) h₂ h₃ → Prints (closeList (wordAt v) k (endingOf index image o)) h₃ h₄
+      → Prints (children pr (onLine Elements (conditionTest t)) (behindIt Elements (conditionTest t)) (kidsIn q)) h₂ h₃ → Prints (closeList (wordAt v) k (endingOf image index o)) h₃ h₄
       → Prints (list pr a b z r) (held rs ts p) h₄
   prints-list t x f g n c w v p₁ p₂ p₃ p₄ =
       by (ap (list pr a b z) e ∙ list-full pr a b z x f g) (numbers _ n (rw (← c, ← (w .text), ← (v .text)) (p₁ ▸ p₂ ▸ p₃ ▸ p₄)))
 
 pub prints-args : (pr : ℕ → Print) {r q : Reading} → r ≡ q → {index image : List ℕ} {o : Outline} {k w v : ℕ} (t : Condition) {rs ts : List ℕ} {p : Printed} {h₁ h₂ h₃ : Held}
-    → Outlined index image q o → k ≡ nextRun p → conditionTest t ≡ testOf false k → Word w "(" → Word v ")"
+    → Outlined image index q o → k ≡ nextRun p → conditionTest t ≡ testOf false k → Word w "(" → Word v ")"
     → Prints (openList (wordAt w) k (conditionTest t)) (held rs ts p) h₁ → Prints (children pr (onLine Arguments (conditionTest t)) (behindIt Arguments (conditionTest t)) (kidsIn q)) h₁ h₂
-    → Prints (closeArguments (wordAt v) k (endingOf index image o)) h₂ h₃ → Prints (arguments pr r) (held rs ts p) h₃
+    → Prints (closeArguments (wordAt v) k (endingOf image index o)) h₂ h₃ → Prints (arguments pr r) (held rs ts p) h₃
 prints-args pr e t x n c w v p₁ p₂ p₃ = by (ap (arguments pr) e ∙ args-full pr x) (numbers _ n (rw (← c, ← (w .text), ← (v .text)) (p₁ ▸ p₂ ▸ p₃)))
 
 -- ---- object comprehensions
 
 -- its second reading
-pub spec-reading : {image index : List ℕ} (i : ℕ) {r : Reading} {m : Outline} {z : Bounds} (x : Outlined index image r m)
-    → Bounded index image (i + 1) (endAt index i) (numberOf (orElse (last Class.MemberComp (partsOf index image i)) (first Class.LBrace (partsOf index image i)))) (numberOf (first Class.RBrace (partsOf index image i))) z
-    → compSpecs (x .ending) (partsOf index image i) ≡ readAt index image Class.CompSpec z (some (gapAt index image (m .last) .waiting))
+pub spec-reading : {image index : List ℕ} (i : ℕ) {r : Reading} {m : Outline} {z : Bounds} (x : Outlined image index r m)
+    → Bounded image index (i + 1) (endAt index i) (numberOf (orElse (last Class.MemberComp (partsOf image index i)) (first Class.LBrace (partsOf image index i)))) (numberOf (first Class.RBrace (partsOf image index i))) z
+    → compSpecs (x .ending) (partsOf image index i) ≡ readAt image index Class.CompSpec z (some (gapAt image index (m .last) .waiting))
 spec-reading i x b = b .read Class.CompSpec _ _ (some (x .ending .trivia)) refl refl ∙ rw (x .waits)
 
-pub prints-comp : (pr : ℕ → Print) (ps : List Part) {index image : List ℕ} {r q : Reading} {m o : Outline} {k w v : ℕ} (t : Condition) {rs ts : List ℕ} {p : Printed} {h₁ h₂ h₃ h₄ h₅ h₆ : Held} (x : Outlined index image r m)
-    → compSpecs (x .ending) ps ≡ q → Outlined index image q o → k ≡ nextRun p → conditionTest t ≡ testOf (m .many || (o .many || (m .blank || o .blank))) k → Word w "{" → Word v "}"
+pub prints-comp : (pr : ℕ → Print) (ps : List Part) {index image : List ℕ} {r q : Reading} {m o : Outline} {k w v : ℕ} (t : Condition) {rs ts : List ℕ} {p : Printed} {h₁ h₂ h₃ h₄ h₅ h₆ : Held} (x : Outlined image index r m)
+    → compSpecs (x .ending) ps ≡ q → Outlined image index q o → k ≡ nextRun p → conditionTest t ≡ testOf (m .many || (o .many || (m .blank || o .blank))) k → Word w "{" → Word v "}"
     → Prints (openList (wordAt w) k (conditionTest t)) (held rs ts p) h₁ → Prints (say group) h₁ h₂ → Prints (children pr (onLine Members (conditionTest t)) (behindIt Members (conditionTest t)) (kidsIn r)) h₂ h₃
-    → Prints (newlineIf (m .blank)) h₃ h₄ → Prints (children pr (onLine Specs (conditionTest t)) (behindIt Specs (conditionTest t)) (kidsIn q)) h₄ h₅ → Prints (closeList (wordAt v) k (endingOf index image o)) h₅ h₆
+    → Prints (newlineIf (m .blank)) h₃ h₄ → Prints (children pr (onLine Specs (conditionTest t)) (behindIt Specs (conditionTest t)) (kidsIn q)) h₄ h₅ → Prints (closeList (wordAt v) k (endingOf image index o)) h₅ h₆
     → Prints (compOf pr ps r) (held rs ts p) h₆
 prints-comp pr ps {q = q} t x e y n c w v p₁ p₂ p₃ p₄ p₅ p₆ = by (comp-full pr ps x q e y) (numbers _ n (rw (← c, ← (w .text), ← (v .text)) (p₁ ▸ p₂ ▸ p₃ ▸ p₄ ▸ p₅ ▸ p₆)))
 
@@ -111,24 +111,24 @@ comp-lacks pr n ps (some x) e g h = absurd (false≢true (sym (rw e at g) ∙ h)
 
 -- its first reading
 pub member-reading : {image index : List ℕ} (i : ℕ) (pr : ℕ → Print) (x : Option Part) {f : Option ℕ} {b : Bool} {z : Bounds} → f ≡ numberOf x → b ≡ not (present f) → b ≡ false
-    → Bounded index image (i + 1) (endAt index i) (numberOf (first Class.LBrace (partsOf index image i))) (numberOf x) z
-    → comprehension pr i (partsOf index image i) x ≡ compOf pr (partsOf index image i) (readAt index image Class.Member z nothing)
+    → Bounded image index (i + 1) (endAt index i) (numberOf (first Class.LBrace (partsOf image index i))) (numberOf x) z
+    → comprehension pr i (partsOf image index i) x ≡ compOf pr (partsOf image index i) (readAt image index Class.Member z nothing)
 member-reading i pr nothing e g h b = absurd (false≢true (sym h ∙ rw e at g))
 member-reading i pr (some s) e g h b = comp-members pr _ i (some s) _ refl (λ s′ q. rw (← q) (b .read Class.Member _ (some s) nothing refl refl))
 
 -- ---- locals
 
-pub prints-binds : (pr : ℕ → Print) {r q : Reading} → r ≡ q → {index image : List ℕ} {o : Outline} (t : Condition) {h₀ h₁ h₂ h₃ : Held} → Outlined index image q o → (o .children ≡ 1 → ⊥)
+pub prints-binds : (pr : ℕ → Print) {r q : Reading} → r ≡ q → {index image : List ℕ} {o : Outline} (t : Condition) {h₀ h₁ h₂ h₃ : Held} → Outlined image index q o → (o .children ≡ 1 → ⊥)
     → Prints (lit "local" ⨟ (say indent ⨟ say newline)) h₀ h₁ → Prints (children pr (onLine Binds (conditionTest t)) (behindIt Binds (conditionTest t)) (kidsIn q)) h₁ h₂
-    → Prints (ending (endingOf index image o) ⨟ say outdent) h₂ h₃ → Prints (localOf pr r) h₀ h₃
+    → Prints (ending (endingOf image index o) ⨟ say outdent) h₂ h₃ → Prints (localOf pr r) h₀ h₃
 prints-binds pr e t x h p₁ p₂ p₃ = by (ap (localOf pr) e ∙ local-many pr (conditionTest t) x h) (p₁ ▸ p₂ ▸ p₃)
 
 -- ---- expressions
 
 pub prints-expr : {image index : List ℕ} (i : ℕ) (pr : ℕ → Print) (x : Option Part) {f : Option ℕ} {y z : Bounds} {h₀ h₁ h₂ h₃ : Held} → f ≡ numberOf x
-    → Bounded index image (i + 1) (endAt index i) nothing f y → Bounded index image (i + 1) (endAt index i) f nothing z
-    → Prints (valuesOf pr (readAt index image Class.Stmt y nothing)) h₀ h₁ → Prints (numberOr pr (wordOrNone 14) f) h₁ h₂ → Prints (valuesOf pr (readAt index image Class.Suffix z nothing)) h₂ h₃
-    → Prints (expression pr (partsOf index image i) x) h₀ h₃
+    → Bounded image index (i + 1) (endAt index i) nothing f y → Bounded image index (i + 1) (endAt index i) f nothing z
+    → Prints (valuesOf pr (readAt image index Class.Stmt y nothing)) h₀ h₁ → Prints (numberOr pr (wordOrNone 14) f) h₁ h₂ → Prints (valuesOf pr (readAt image index Class.Suffix z nothing)) h₂ h₃
+    → Prints (expression pr (partsOf image index i) x) h₀ h₃
 unfolding expression wordOrNone words
 prints-expr i pr x e b d p₁ p₂ p₃ =
     by (ap (valuesOf pr) (b .read Class.Stmt nothing x nothing refl (sym e))) p₁

@@ -35,12 +35,12 @@ part-number pr p nothing = refl
 part-number pr p (some x) = refl
 
 -- a reading between two parts is one
-pub within : {image index : List ℕ} {i : ℕ} {s e : Option ℕ} {z : Bounds} → At image index i → Bounded index image (i + 1) (endAt index i) s e z → Within image index i z
+pub within : {image index : List ℕ} {i : ℕ} {s e : Option ℕ} {z : Bounds} → At image index i → Bounded image index (i + 1) (endAt index i) s e z → Within image index i z
 within a b = record { at = a; region = b .region; reached = b .reached; inside = b .within }
 
 -- at the first gap of a reading
-pub walks-first : (c : Class) {image index : List ℕ} {i : ℕ} {z : Bounds} {s : Span} → Within image index i z → Spans index image (kinds c) (z .loose) false (z .from) (z .to) s
-    → Whole (readAt index image c z nothing) → Walks image index i (kinds c) (z .loose) (z .to) s
+pub walks-first : (c : Class) {image index : List ℕ} {i : ℕ} {z : Bounds} {s : Span} → Within image index i z → Spans image index (kinds c) (z .loose) false (z .from) (z .to) s
+    → Whole (readAt image index c z nothing) → Walks image index i (kinds c) (z .loose) (z .to) s
 walks-first c {z} w h r = record {
   at = w .at;
   through = through-first h (sym (whole c (z .loose) _) ∙ r .is);
@@ -56,14 +56,14 @@ module _ {image index : List ℕ} {i : ℕ} {w : Kinds} {loose : Bool} {b : ℕ}
   walks-kid e = kid-of (h .at) (h .reached) (omega (arith, h .onward e, h .inside))
 
 -- behind a child of element i
-pub behind-kid : {image index : List ℕ} {i j : ℕ} → Kid image index i j → Stretch index image j (endAt index j)
+pub behind-kid : {image index : List ℕ} {i j : ℕ} → Kid image index i j → Stretch image index j (endAt index j)
 behind-kid {image} {index} {i} {j} k =
     let t = table (k .at .indexed) in
     record { n = _; table = t; upto = t .inside j (kid-at k .within); jumps = jump (kid-at k .within) here }
 
 -- at the next gap
 pub walks-next : {image index : List ℕ} {i : ℕ} {w : Kinds} {loose : Bool} {b next : ℕ} {s t : Span} → Walks image index i w loose b s → s .end ≡ 0
-    → next ≡ endAt index (s .to) → Spans index image w loose true next b t → Walks image index i w loose b t
+    → next ≡ endAt index (s .to) → Spans image index w loose true next b t → Walks image index i w loose b t
 walks-next h e q k = record {
   at = h .at;
   through = through-next (h .through) e q k;
@@ -74,7 +74,7 @@ walks-next h e q k = record {
 }
 
 -- the children of a reading, printed by a walk from its first gap
-pub items-walk : (c : Class) (pr : ℕ → Print) (f g : Bool → Print) {image index : List ℕ} {z : Bounds} {s : Span} → Spans index image (kinds c) (z .loose) false (z .from) (z .to) s
-    → Whole (readAt index image c z nothing) → children pr f g (kidsIn (readAt index image c z nothing)) ≡ walked pr f g (spanned index image (kinds c) (z .loose) (z .to) s)
+pub items-walk : (c : Class) (pr : ℕ → Print) (f g : Bool → Print) {image index : List ℕ} {z : Bounds} {s : Span} → Spans image index (kinds c) (z .loose) false (z .from) (z .to) s
+    → Whole (readAt image index c z nothing) → children pr f g (kidsIn (readAt image index c z nothing)) ≡ walked pr f g (spanned image index (kinds c) (z .loose) (z .to) s)
 unfolding kidsIn
 items-walk c pr f g {z} h r = rw (r .is, ← (h .read)) (walk-read pr f g _ (sym (whole c (z .loose) _) ∙ r .is))

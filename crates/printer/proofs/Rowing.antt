@@ -41,7 +41,7 @@ use Rattle.printer.proofs.Readings.{part-number, behind-kid}
 -- The pieces from n on are still to be printed, of the row of element i.
 pub record Rowing (image index : List ℕ) (i end : ℕ) (o a : Held) (n : ℕ) : Type 0 where
   pub few : end ≤ 145
-  pub goes : Goes (row (under image i) (partsOf index image i) (layout (kindAt index i))) (row (under image i) (partsOf index image i) (take (end - n) (drop n pieces))) o a
+  pub goes : Goes (row (under image i) (partsOf image index i) (layout (kindAt index i))) (row (under image i) (partsOf image index i) (take (end - n) (drop n pieces))) o a
 
 pieces-count : length pieces ≡ 145
 unfolding pieces rows flatten
@@ -52,7 +52,7 @@ module _ {image index : List ℕ} {i : ℕ} {o : Held} where
   rowing-none r q = record { few = r .within; goes = rw (r .pieces-of, q) (goes-none _ o) }
 
   pub rowing-more : {end n m : ℕ} {a b : Held} → Rowing image index i end o a n → n < end
-      → Prints (when (asked (partsOf index image i) (pieceAt n)) (what (under image i) (partsOf index image i) (pieceAt n .what))) a b → m ≡ n + 1 → Rowing image index i end o b m
+      → Prints (when (asked (partsOf image index i) (pieceAt n)) (what (under image i) (partsOf image index i) (pieceAt n .what))) a b → m ≡ n + 1 → Rowing image index i end o b m
   unfolding row
   rowing-more {end} {n} {m} r h p e =
       let q : end - n ≡ suc (end - suc n) = omega arith in
@@ -66,7 +66,7 @@ module _ {image index : List ℕ} {i : ℕ} {o : Held} where
   pub rowing-in : {end n : ℕ} {a : Held} → Rowing image index i end o a n → n < end → n < 145
   rowing-in r h = omega (arith, r .few)
 
-  pub rowing-all : {end n : ℕ} {a : Held} → Rowing image index i end o a n → end ≤ n → Prints (row (under image i) (partsOf index image i) (layout (kindAt index i))) o a
+  pub rowing-all : {end n : ℕ} {a : Held} → Rowing image index i end o a n → end ≤ n → Prints (row (under image i) (partsOf image index i) (layout (kindAt index i))) o a
   unfolding row
   rowing-all {end} {n} r h = let q : end - n ≡ 0 = omega arith in goes-all (r .goes) (rw q)
 
@@ -131,7 +131,7 @@ piece-part pr ps x t h g = go (eqb (x .what) 4) refl (eqb (x .word) 0) refl t (o
 -- ---- parts that were found
 
 -- a part that was found is a child
-pub found-kid : {image index : List ℕ} {i : ℕ} (j : ℕ) {n : Option ℕ} → At image index i → Has (partsOf index image i) n → n ≡ some j → Kid image index i j
+pub found-kid : {image index : List ℕ} {i : ℕ} (j : ℕ) {n : Option ℕ} → At image index i → Has (partsOf image index i) n → n ≡ some j → Kid image index i j
 found-kid j a h e = kid-found a (h .part j e)
 
 -- a child has fewer elements under it, whatever the ranks
@@ -182,7 +182,7 @@ front-word w h = sym (tabled-at true 50 (λ w. isNil (ascii (wordAt w))) w h) �
 -- a part of the class: the text in front, the part, and what ends it
 pub each-one : {image index : List ℕ} {i j : ℕ} (w : ℕ) (c : Class) (ended : Bool) {o a b d : Held} → w < 50 → Kid image index i j → oneOf (kinds c) (kindAt index j) ≡ true
     → Prints (wordOrNone w) o a → Prints (printOf image j) a b → Prints (when ended (lit "," ⨟ say newline)) b d
-    → Prints (eachOf (under image i) c (wordAt w) ended (partAt index image j ∷ [])) o d
+    → Prints (eachOf (under image i) c (wordAt w) ended (partAt image index j ∷ [])) o d
 unfolding eachOf wordOrNone
 each-one w c ended l k h x y z = by (rw (h, front-word w l)) (by (front w) x ▸ by (kid-print k) y ▸ z ▸ idle)
   where
@@ -196,9 +196,9 @@ each-one w c ended l k h x y z = by (rw (h, front-word w l)) (by (front w) x ▸
 -- The parts from j on are still to be printed, of element i.
 pub record Eaching (image index : List ℕ) (i : ℕ) (c : Class) (s : String) (ended : Bool) (o a : Held) (j : ℕ) : Type 0 where
   pub at : At image index i
-  pub reached : Stretch index image (i + 1) j
-  pub region : Region index image j (endAt index i)
-  pub goes : Goes (eachOf (under image i) c s ended (partsOf index image i)) (eachOf (under image i) c s ended (partsFrom index image j (endAt index i))) o a
+  pub reached : Stretch image index (i + 1) j
+  pub region : Region image index j (endAt index i)
+  pub goes : Goes (eachOf (under image i) c s ended (partsOf image index i)) (eachOf (under image i) c s ended (partsFrom image index j (endAt index i))) o a
 
 module _ {image index : List ℕ} {i : ℕ} {o : Held} where
   pub eaching-none : (c : Class) (s : String) (ended : Bool) {j : ℕ} → At image index i → j ≡ i + 1 → Eaching image index i c s ended o o j
@@ -212,7 +212,7 @@ module _ {image index : List ℕ} {i : ℕ} {o : Held} where
     pub eaching-less : {k : ℕ} → j < end → k ≡ endAt index j → end - k < end - j
     eaching-less h q = omega (arith, region-past (r .region) (omega (arith, e)))
 
-    pub eaching-more : {k : ℕ} {b : Held} → j < end → k ≡ endAt index j → Prints (eachOf (under image i) c s ended (partAt index image j ∷ [])) a b → Eaching image index i c s ended o b k
+    pub eaching-more : {k : ℕ} {b : Held} → j < end → k ≡ endAt index j → Prints (eachOf (under image i) c s ended (partAt image index j ∷ [])) a b → Eaching image index i c s ended o b k
     eaching-more h q p =
         let g : j < endAt index i = omega (arith, e) in
         rw q (record {
@@ -222,6 +222,6 @@ module _ {image index : List ℕ} {i : ℕ} {o : Held} where
           goes = goes-more (r .goes) (ap (eachOf (under image i) c s ended) (region-part (r .region) g) ∙ each-cons (under image i) c s ended _ _) p;
         })
 
-    pub eaching-all : end ≤ j → Prints (eachOf (under image i) c s ended (partsOf index image i)) o a
+    pub eaching-all : end ≤ j → Prints (eachOf (under image i) c s ended (partsOf image index i)) o a
     unfolding eachOf
     eaching-all h = goes-all (r .goes) (rw (parts-over index image j (endAt index i) (omega (arith, e))))

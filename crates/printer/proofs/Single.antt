@@ -64,8 +64,8 @@ lone-child g x (G.Gaps.child k y gs) {cs} {e} h l = go (readFrom (childAt k y) g
     go (read es f) h s = let q : closedBy (childAt g x) k ∷ es ≡ cs = cc in absurd (omega (arith, s es f refl, ap length q))
 
 -- a local with one bind: the gap before it, and its number
-module _ {image index : List ℕ} {w : Kinds} {z : Bounds} {s : Span} (k : w ≡ kinds Bind) (h : Spans index image w (z .loose) false (z .from) (z .to) s) (r : Whole (readAt index image Bind z nothing)) (l : length (kidsIn (readAt index image Bind z nothing)) ≡ 1) where
-  reads : readingOf (spanned index image w (z .loose) (z .to) s) ≡ read (r .kids) (r .ending)
+module _ {image index : List ℕ} {w : Kinds} {z : Bounds} {s : Span} (k : w ≡ kinds Bind) (h : Spans image index w (z .loose) false (z .from) (z .to) s) (r : Whole (readAt image index Bind z nothing)) (l : length (kidsIn (readAt image index Bind z nothing)) ≡ 1) where
+  reads : readingOf (spanned image index w (z .loose) (z .to) s) ≡ read (r .kids) (r .ending)
   reads = rw (← (h .read), k) (sym (whole Bind (z .loose) _) ∙ r .is)
 
   count : length (r .kids) ≡ 1
@@ -78,43 +78,43 @@ module _ {image index : List ℕ} {w : Kinds} {z : Bounds} {s : Span} (k : w ≡
   lone-there = go (eqb (s .end) 0) refl (eqb (s .end) 1) reads
     where
       go : (u : Bool) → eqb (s .end) 0 ≡ u → (v : Bool)
-          → readingOf (cond u (G.Gaps.child (gapAt index image s) (partAt index image (s .to)) (gaps w (z .loose) false true (partsFrom index image (endAt index (s .to)) (z .to)))) (cond v (G.ending (gapAt index image s)) (G.stopped (s .to)))) ≡ read (r .kids) (r .ending) → s .end ≡ 0
+          → readingOf (cond u (G.Gaps.child (gapAt image index s) (partAt image index (s .to)) (gaps w (z .loose) false true (partsFrom image index (endAt index (s .to)) (z .to)))) (cond v (G.ending (gapAt image index s)) (G.stopped (s .to)))) ≡ read (r .kids) (r .ending) → s .end ≡ 0
       go true e v q = eqb-true (s .end) 0 e
       go false e true q = let n : [] ≡ r .kids = cc in absurd (omega (arith, count, ap length n))
       go false e false q = foreign-read q
 
-  pub lone-is : (pr : ℕ → Print) → localOf pr (readAt index image Bind z nothing) ≡ comments (gapAt index image s .waiting) aboveItem ⨟ (lit "local " ⨟ pr (s .to))
+  pub lone-is : (pr : ℕ → Print) → localOf pr (readAt image index Bind z nothing) ≡ comments (gapAt image index s .waiting) aboveItem ⨟ (lit "local " ⨟ pr (s .to))
   lone-is pr =
       let c = span-child′ in
       rw (whole Bind (z .loose) _, ← k, h .read, c) (lone-child _ _ _ (rw c at reads) count .one pr)
     where
-      span-child′ : spanned index image w (z .loose) (z .to) s ≡ G.Gaps.child (gapAt index image s) (partAt index image (s .to)) (gaps w (z .loose) false true (partsFrom index image (endAt index (s .to)) (z .to)))
+      span-child′ : spanned image index w (z .loose) (z .to) s ≡ G.Gaps.child (gapAt image index s) (partAt image index (s .to)) (gaps w (z .loose) false true (partsFrom image index (endAt index (s .to)) (z .to)))
       span-child′ = sym (h .read) ∙ span-child h lone-there
 
 -- ---- the CompSpecs of an object comprehension
 
-module _ {image index : List ℕ} {i : ℕ} {w : Kinds} {z : Bounds} {s : Span} (k : w ≡ kinds CompSpec) (n : Within image index i z) (h : Leads index image w (z .loose) (z .from) (z .to) s) where
+module _ {image index : List ℕ} {i : ℕ} {w : Kinds} {z : Bounds} {s : Span} (k : w ≡ kinds CompSpec) (n : Within image index i z) (h : Leads image index w (z .loose) (z .from) (z .to) s) where
   -- the first is a child
   pub spec-kid : s .end ≡ 0 → Kid image index i (s .to)
   spec-kid e = kid-of (n .at) (stretch-both (n .reached) (lead-reached h)) (omega (arith, h .inside e, n .inside))
 
-  module _ (ts : List Part) (r : Whole (readAt index image CompSpec z (some ts))) where
-    after : readingAfter ts (leads w (z .loose) (partsFrom index image (z .from) (z .to))) ≡ read (r .kids) (r .ending)
+  module _ (ts : List Part) (r : Whole (readAt image index CompSpec z (some ts))) where
+    after : readingAfter ts (leads w (z .loose) (partsFrom image index (z .from) (z .to))) ≡ read (r .kids) (r .ending)
     after = rw k (sym (whole-after CompSpec (z .loose) ts _) ∙ r .is)
 
     -- all of them, walked
-    walked-specs : (pr : ℕ → Print) (f g : Bool → Print) → children pr f g (kidsIn (readAt index image CompSpec z (some ts))) ≡ walkedAfter pr f g ts (led index image w (z .loose) (z .to) s)
+    walked-specs : (pr : ℕ → Print) (f g : Bool → Print) → children pr f g (kidsIn (readAt image index CompSpec z (some ts))) ≡ walkedAfter pr f g ts (led image index w (z .loose) (z .to) s)
     unfolding kidsIn
     walked-specs pr f g = rw (r .is, ← (h .read)) (walk-after pr f g ts _ after)
 
     -- there is none
-    pub specs-none : (pr : ℕ → Print) (f g : Bool → Print) → (s .end ≡ 0 → ⊥) → children pr f g (kidsIn (readAt index image CompSpec z (some ts))) ≡ none
+    pub specs-none : (pr : ℕ → Print) (f g : Bool → Print) → (s .end ≡ 0 → ⊥) → children pr f g (kidsIn (readAt image index CompSpec z (some ts))) ≡ none
     specs-none pr f g e = walked-specs pr f g ∙ lead-none index image w (z .loose) (z .to) s pr f g ts e
 
-    module _ {next : ℕ} {t : Span} (e : s .end ≡ 0) (q : next ≡ endAt index (s .to)) (p : Spans index image w (z .loose) true next (z .to) t) where
+    module _ {next : ℕ} {t : Span} (e : s .end ≡ 0) (q : next ≡ endAt index (s .to)) (p : Spans image index w (z .loose) true next (z .to) t) where
       -- the first, with the trailing list before it, and the others
       pub specs-some : (pr : ℕ → Print) (f g : Bool → Print)
-          → children pr f g (kidsIn (readAt index image CompSpec z (some ts))) ≡ around pr f g (gapOf [] ts false) (s .to) (gapAt index image t) (eqb (t .end) 0) ⨟ walked pr f g (spanned index image (kinds CompSpec) (z .loose) (z .to) t)
+          → children pr f g (kidsIn (readAt image index CompSpec z (some ts))) ≡ around pr f g (gapOf [] ts false) (s .to) (gapAt image index t) (eqb (t .end) 0) ⨟ walked pr f g (spanned image index (kinds CompSpec) (z .loose) (z .to) t)
       specs-some pr f g = walked-specs pr f g ∙ walk-lead pr f g ts s (through-lead ts h after e q p) e q p ∙ rw k
 
       -- a walk over the others

@@ -28,7 +28,7 @@ root-at {image} x = record { indexed = x; within = accepted image (x .passed) .n
 
 -- the notes as a list
 abbrev listed : List ℕ → List ℕ → Notes → List Part
-listed index image n = allOf notes (partsFrom index image (n .from) (n .to))
+listed index image n = allOf notes (partsFrom image index (n .from) (n .to))
 
 module _
     {image index : List ℕ}
@@ -37,15 +37,15 @@ module _
     {e : Option ℕ}
     (p : a ≡ 0 + 1)
     (q : b ≡ endAt index 0)
-    (f : e ≡ numberOf (first Class.Expr (partsOf index image 0)))
+    (f : e ≡ numberOf (first Class.Expr (partsOf image index 0)))
     (before after : Notes)
-    (g : (y : Option Part) → numberOf y ≡ e → Beside index image (triviaBefore y (partsFrom index image a b)) before)
-    (h : (y : Option Part) → numberOf y ≡ e → Beside index image (triviaAfter y (partsFrom index image a b)) after) where
-  before-is : triviaBefore (first Class.Expr (partsOf index image 0)) (partsOf index image 0) ≡ aroundAt (found (before .foreign)) (listed index image before)
-  before-is = rw (p, q) at (g (first Class.Expr (partsOf index image 0)) (sym f) .read)
+    (g : (y : Option Part) → numberOf y ≡ e → Beside image index (triviaBefore y (partsFrom image index a b)) before)
+    (h : (y : Option Part) → numberOf y ≡ e → Beside image index (triviaAfter y (partsFrom image index a b)) after) where
+  before-is : triviaBefore (first Class.Expr (partsOf image index 0)) (partsOf image index 0) ≡ aroundAt (found (before .foreign)) (listed index image before)
+  before-is = rw (p, q) at (g (first Class.Expr (partsOf image index 0)) (sym f) .read)
 
-  after-is : triviaAfter (first Class.Expr (partsOf index image 0)) (partsOf index image 0) ≡ aroundAt (found (after .foreign)) (listed index image after)
-  after-is = rw (p, q) at (h (first Class.Expr (partsOf index image 0)) (sym f) .read)
+  after-is : triviaAfter (first Class.Expr (partsOf image index 0)) (partsOf image index 0) ≡ aroundAt (found (after .foreign)) (listed index image after)
+  after-is = rw (p, q) at (h (first Class.Expr (partsOf image index 0)) (sym f) .read)
 
   -- a foreign element before the expression
   pub source-before : {n : ℕ} → found (before .foreign) ≡ some n → sourceFile (treeOf image) ≡ stopped n
@@ -61,11 +61,11 @@ module _
   pub source-whole : found (before .foreign) ≡ nothing → found (after .foreign) ≡ nothing
       → sourceFile (treeOf image) ≡ comments (listed index image before) aboveItem ⨟ (numberOr (under image 0) (lit "/*missing Expr*/") e ⨟ (say newline ⨟ comments (listed index image after) endOfItems))
   unfolding source sourceOf
-  source-whole u v = source-is x ∙ rw (before-is, after-is, u, v, part-number (under image 0) (lit "/*missing Expr*/") (first Class.Expr (partsOf index image 0)), f)
+  source-whole u v = source-is x ∙ rw (before-is, after-is, u, v, part-number (under image 0) (lit "/*missing Expr*/") (first Class.Expr (partsOf image index 0)), f)
 
   -- where the notes may be walked
-  pub before-region : Region index image (before .from) (before .to)
-  before-region = g (first Class.Expr (partsOf index image 0)) (sym f) .region
+  pub before-region : Region image index (before .from) (before .to)
+  before-region = g (first Class.Expr (partsOf image index 0)) (sym f) .region
 
-  pub after-region : Region index image (after .from) (after .to)
-  after-region = h (first Class.Expr (partsOf index image 0)) (sym f) .region
+  pub after-region : Region image index (after .from) (after .to)
+  after-region = h (first Class.Expr (partsOf image index 0)) (sym f) .region

@@ -82,14 +82,14 @@ module _ {image index : List ℕ} {i : ℕ} (t : At image index i) where
   at-accepted = accepted image (t .indexed .passed)
 
   -- what an element prints, read off the index
-  pub node-is : printOf image i ≡ element (under image i) (kindAt index i) i (textAt index image i) (textAt index image i) (partsOf index image i)
+  pub node-is : printOf image i ≡ element (under image i) (kindAt index i) i (textAt image index i) (textAt image index i) (partsOf image index i)
   unfolding printOf
   node-is =
       element-text at-accepted i (t .within) (under image i) (parts (kidsOf image i))
       ∙ rw (kind-at (t .indexed) i (t .within), text-at (t .indexed) i (t .within), children (t .indexed) i (t .within), text-under at-accepted i (t .within))
 
   -- where its children may be walked
-  pub at-region : {a b : ℕ} → a ≡ i + 1 → b ≡ endAt index i → Region index image a b
+  pub at-region : {a b : ℕ} → a ≡ i + 1 → b ≡ endAt index i → Region image index a b
   at-region q r = region-of (t .indexed) i (t .within) q r
 
   -- its number has room for one more
@@ -97,13 +97,13 @@ module _ {image index : List ℕ} {i : ℕ} (t : At image index i) where
   at-next = omega (arith, t .within, at-accepted .few-elements)
 
   -- what is reached by jumps is a child
-  pub kid-of : {j : ℕ} → Stretch index image (i + 1) j → j < endAt index i → Kid image index i j
+  pub kid-of : {j : ℕ} → Stretch image index (i + 1) j → j < endAt index i → Kid image index i j
   kid-of {j} s h = record { at = t; child = stretched (t .indexed) i j (t .within) s (omega arith); before = h }
 
   -- and so is what an accessor finds
-  pub kid-found : {j : ℕ} → has j (partsOf index image i) ≡ true → Kid image index i j
+  pub kid-found : {j : ℕ} → has j (partsOf image index i) ≡ true → Kid image index i j
   kid-found {j} e =
-      let r : Region index image (i + 1) (endAt index i) = at-region refl refl in
+      let r : Region image index (i + 1) (endAt index i) = at-region refl refl in
       let m = among r e in
       record { at = t; child = jumped (t .indexed) (r .table) i j (t .within) (m .jumps) (omega (arith, m .before)); before = m .before }
 
@@ -145,7 +145,7 @@ module _ {image index : List ℕ} {i j : ℕ} (k : Kid image index i j) where
   kid-print = later (j - (i + 1)) (i + 1) (omega (arith, k .child .behind)) (omega arith)
 
 -- the source file is the first element
-pub source-is : {image index : List ℕ} → Indexed image index → sourceFile (treeOf image) ≡ source (under image 0) (partsOf index image 0) (first Class.Expr (partsOf index image 0))
+pub source-is : {image index : List ℕ} → Indexed image index → sourceFile (treeOf image) ≡ source (under image 0) (partsOf image index 0) (first Class.Expr (partsOf image index 0))
 unfolding sourceFile under
 source-is {image} {index} x =
     let a : Accepted image = accepted image (x .passed) in

@@ -114,18 +114,18 @@ module _ (pr : ℕ → Print) where
 
 module _ {index image : List ℕ} {o : Outline} where
   -- a reading that ends is read
-  pub outlined : (r : Reading) → sumsOf r ≡ surveyed index image o → o .last .end ≡ 1 → Outlined index image r o
+  pub outlined : (r : Reading) → sumsOf r ≡ surveyed image index o → o .last .end ≡ 1 → Outlined image index r o
   unfolding sumsOf surveyed
   outlined (foreign n) h e =
-      let q : G.Sums.foreignAt n ≡ G.sums (o .children) (o .many) (o .blank) (gapAt index image (o .last) .waiting) = rw e at h in
+      let q : G.Sums.foreignAt n ≡ G.sums (o .children) (o .many) (o .blank) (gapAt image index (o .last) .waiting) = rw e at h in
       let z : _≡_ {A = ℕ} 0 1 = cc in
       absurd (omega arith)
   outlined (read cs k) h e =
-      let q : G.sums (length cs) (anyManyLines cs) (k .blankLine) (k .trivia) ≡ G.sums (o .children) (o .many) (o .blank) (gapAt index image (o .last) .waiting) = rw e at h in
+      let q : G.sums (length cs) (anyManyLines cs) (k .blankLine) (k .trivia) ≡ G.sums (o .children) (o .many) (o .blank) (gapAt image index (o .last) .waiting) = rw e at h in
       record { kids = cs; ending = k; is = refl; count = cc; many = cc; blank = cc; waits = cc }
 
 -- one that does not end stops at a foreign element
-pub outlined-foreign : (index image : List ℕ) (o : Outline) (r : Reading) → sumsOf r ≡ surveyed index image o → (o .last .end ≡ 1 → ⊥) → r ≡ foreign (o .last .to)
+pub outlined-foreign : (index image : List ℕ) (o : Outline) (r : Reading) → sumsOf r ≡ surveyed image index o → (o .last .end ≡ 1 → ⊥) → r ≡ foreign (o .last .to)
 unfolding sumsOf surveyed
 outlined-foreign index image o (foreign n) h e =
     let q : G.Sums.foreignAt n ≡ G.Sums.foreignAt (o .last .to) = rw (ne-eqb (o .last .end) 1 e) at h in
@@ -138,8 +138,8 @@ outlined-foreign index image o (read cs k) h e =
 
 -- at the first span
 pub through-first : {index image : List ℕ} {w : Kinds} {loose : Bool} {from b : ℕ} {s : Span} {cs : List Child} {e : Ending}
-    → Spans index image w loose false from b s → readingOf (gaps w loose true false (partsFrom index image from b)) ≡ read cs e → Through index image w loose b s
-through-first {index} {image} {w} {loose} {from} {b} h e = record { ends = rw (h .read) at (unstopped-read (gaps w loose true false (partsFrom index image from b)) e) }
+    → Spans image index w loose false from b s → readingOf (gaps w loose true false (partsFrom image index from b)) ≡ read cs e → Through image index w loose b s
+through-first {index} {image} {w} {loose} {from} {b} h e = record { ends = rw (h .read) at (unstopped-read (gaps w loose true false (partsFrom image index from b)) e) }
 
 -- what a span is, by the tests of its end
 abbrev spanBy : Bool → Bool → Gap → Part → Gaps → ℕ → Gaps
@@ -158,57 +158,57 @@ front-by false false a x gs n h = absurd (false≢true h)
 
 module _ (index image : List ℕ) (w : Kinds) (loose : Bool) (b : ℕ) (s : Span) where
   -- a span with a child
-  opened : s .end ≡ 0 → spanned index image w loose b s ≡ G.Gaps.child (gapAt index image s) (partAt index image (s .to)) (gaps w loose false true (partsFrom index image (endAt index (s .to)) b))
+  opened : s .end ≡ 0 → spanned image index w loose b s ≡ G.Gaps.child (gapAt image index s) (partAt image index (s .to)) (gaps w loose false true (partsFrom image index (endAt index (s .to)) b))
   unfolding spanned
   opened e = rw (eq-eqb (s .end) 0 e)
 
   -- whether it has one
-  tested : hasChild (spanned index image w loose b s) ≡ eqb (s .end) 0
+  tested : hasChild (spanned image index w loose b s) ≡ eqb (s .end) 0
   unfolding spanned
   tested = child-by (eqb (s .end) 0) (eqb (s .end) 1) _ _ _ _
 
   -- its gap is the first, but where a foreign element stops the reading
-  fronted : unstopped (spanned index image w loose b s) ≡ true → frontOf (spanned index image w loose b s) ≡ gapAt index image s
+  fronted : unstopped (spanned image index w loose b s) ≡ true → frontOf (spanned image index w loose b s) ≡ gapAt image index s
   unfolding spanned
   fronted h = front-by (eqb (s .end) 0) (eqb (s .end) 1) _ _ _ _ h
 
   -- no child, no step
-  pub walk-none : (pr : ℕ → Print) (f g : Bool → Print) → (s .end ≡ 0 → ⊥) → walked pr f g (spanned index image w loose b s) ≡ none
+  pub walk-none : (pr : ℕ → Print) (f g : Bool → Print) → (s .end ≡ 0 → ⊥) → walked pr f g (spanned image index w loose b s) ≡ none
   unfolding walked spanned
   walk-none pr f g h = rw (ne-eqb (s .end) 0 h) (go (eqb (s .end) 1))
     where
-      go : (v : Bool) → walked pr f g (cond v (G.ending (gapAt index image s)) (G.stopped (s .to))) ≡ none
+      go : (v : Bool) → walked pr f g (cond v (G.ending (gapAt image index s)) (G.stopped (s .to))) ≡ none
       go true = refl
       go false = refl
 
-  pub value-none : (pr : ℕ → Print) → (s .end ≡ 0 → ⊥) → valued pr (spanned index image w loose b s) ≡ none
+  pub value-none : (pr : ℕ → Print) → (s .end ≡ 0 → ⊥) → valued pr (spanned image index w loose b s) ≡ none
   unfolding valued spanned
   value-none pr h = rw (ne-eqb (s .end) 0 h) (go (eqb (s .end) 1))
     where
-      go : (v : Bool) → valued pr (cond v (G.ending (gapAt index image s)) (G.stopped (s .to))) ≡ none
+      go : (v : Bool) → valued pr (cond v (G.ending (gapAt image index s)) (G.stopped (s .to))) ≡ none
       go true = refl
       go false = refl
 
 module _ {index image : List ℕ} {w : Kinds} {loose : Bool} {b next : ℕ} {t : Span} where
   -- a span with a child, and the span behind that child
-  stepped : (s : Span) → s .end ≡ 0 → next ≡ endAt index (s .to) → Spans index image w loose true next b t
-      → spanned index image w loose b s ≡ G.Gaps.child (gapAt index image s) (partAt index image (s .to)) (spanned index image w loose b t)
+  stepped : (s : Span) → s .end ≡ 0 → next ≡ endAt index (s .to) → Spans image index w loose true next b t
+      → spanned image index w loose b s ≡ G.Gaps.child (gapAt image index s) (partAt image index (s .to)) (spanned image index w loose b t)
   stepped s e q h = opened index image w loose b s e ∙ rw (← q, h .read)
 
   -- the reading comes to its end from there too
-  pub through-next : {s : Span} → Through index image w loose b s → s .end ≡ 0 → next ≡ endAt index (s .to) → Spans index image w loose true next b t → Through index image w loose b t
+  pub through-next : {s : Span} → Through image index w loose b s → s .end ≡ 0 → next ≡ endAt index (s .to) → Spans image index w loose true next b t → Through image index w loose b t
   unfolding unstopped
   through-next {s} u e q h = record { ends = rw (stepped s e q h) at (u .ends) }
 
   -- a step with comments
-  pub walk-next : (pr : ℕ → Print) (f g : Bool → Print) {s : Span} → Through index image w loose b s → s .end ≡ 0 → next ≡ endAt index (s .to) → Spans index image w loose true next b t
-      → walked pr f g (spanned index image w loose b s) ≡ around pr f g (gapAt index image s) (s .to) (gapAt index image t) (eqb (t .end) 0) ⨟ walked pr f g (spanned index image w loose b t)
+  pub walk-next : (pr : ℕ → Print) (f g : Bool → Print) {s : Span} → Through image index w loose b s → s .end ≡ 0 → next ≡ endAt index (s .to) → Spans image index w loose true next b t
+      → walked pr f g (spanned image index w loose b s) ≡ around pr f g (gapAt image index s) (s .to) (gapAt image index t) (eqb (t .end) 0) ⨟ walked pr f g (spanned image index w loose b t)
   unfolding walked
   walk-next pr f g {s} u e q h = rw (stepped s e q h, fronted index image w loose b t (through-next u e q h .ends), tested index image w loose b t)
 
   -- a step without
-  pub value-next : (pr : ℕ → Print) (s : Span) → s .end ≡ 0 → next ≡ endAt index (s .to) → Spans index image w loose true next b t
-      → valued pr (spanned index image w loose b s) ≡ pr (s .to) ⨟ valued pr (spanned index image w loose b t)
+  pub value-next : (pr : ℕ → Print) (s : Span) → s .end ≡ 0 → next ≡ endAt index (s .to) → Spans image index w loose true next b t
+      → valued pr (spanned image index w loose b s) ≡ pr (s .to) ⨟ valued pr (spanned image index w loose b t)
   unfolding valued
   value-next pr s e q h = rw (stepped s e q h)
 
@@ -221,32 +221,32 @@ unstopped-after ts a x gs {cs} {e} h = go (isNil (a .waiting)) h
     go false h = foreign-read h
 
 module _ (index image : List ℕ) (w : Kinds) (loose : Bool) (b : ℕ) (s : Span) where
-  led-opened : s .end ≡ 0 → led index image w loose b s ≡ G.Gaps.child (leadAt index image s) (partAt index image (s .to)) (gaps w loose false true (partsFrom index image (endAt index (s .to)) b))
+  led-opened : s .end ≡ 0 → led image index w loose b s ≡ G.Gaps.child (leadAt image index s) (partAt image index (s .to)) (gaps w loose false true (partsFrom image index (endAt index (s .to)) b))
   unfolding led
   led-opened e = rw (eq-eqb (s .end) 0 e)
 
   -- no child, no step
-  pub lead-none : (pr : ℕ → Print) (f g : Bool → Print) (ts : List Part) → (s .end ≡ 0 → ⊥) → walkedAfter pr f g ts (led index image w loose b s) ≡ none
+  pub lead-none : (pr : ℕ → Print) (f g : Bool → Print) (ts : List Part) → (s .end ≡ 0 → ⊥) → walkedAfter pr f g ts (led image index w loose b s) ≡ none
   unfolding walkedAfter led
   lead-none pr f g ts h = rw (ne-eqb (s .end) 0 h) (go (eqb (s .end) 1))
     where
-      go : (v : Bool) → walkedAfter pr f g ts (cond v (G.ending (leadAt index image s)) (G.stopped (s .to))) ≡ none
+      go : (v : Bool) → walkedAfter pr f g ts (cond v (G.ending (leadAt image index s)) (G.stopped (s .to))) ≡ none
       go true = refl
       go false = refl
 
 module _ {index image : List ℕ} {w : Kinds} {loose : Bool} {b next : ℕ} {t : Span} where
   -- the first span and the one behind its child
-  led-stepped : (s : Span) → s .end ≡ 0 → next ≡ endAt index (s .to) → Spans index image w loose true next b t
-      → led index image w loose b s ≡ G.Gaps.child (leadAt index image s) (partAt index image (s .to)) (spanned index image w loose b t)
+  led-stepped : (s : Span) → s .end ≡ 0 → next ≡ endAt index (s .to) → Spans image index w loose true next b t
+      → led image index w loose b s ≡ G.Gaps.child (leadAt image index s) (partAt image index (s .to)) (spanned image index w loose b t)
   led-stepped s e q h = led-opened index image w loose b s e ∙ rw (← q, h .read)
 
   -- behind the first child
-  pub through-lead : (ts : List Part) {from : ℕ} {s : Span} {cs : List Child} {e : Ending} → Leads index image w loose from b s → readingAfter ts (leads w loose (partsFrom index image from b)) ≡ read cs e
-      → s .end ≡ 0 → next ≡ endAt index (s .to) → Spans index image w loose true next b t → Through index image w loose b t
-  through-lead ts {s = s} l r e q h = record { ends = unstopped-after ts (leadAt index image s) (partAt index image (s .to)) (spanned index image w loose b t) (rw (l .read, led-stepped s e q h) at r) }
+  pub through-lead : (ts : List Part) {from : ℕ} {s : Span} {cs : List Child} {e : Ending} → Leads image index w loose from b s → readingAfter ts (leads w loose (partsFrom image index from b)) ≡ read cs e
+      → s .end ≡ 0 → next ≡ endAt index (s .to) → Spans image index w loose true next b t → Through image index w loose b t
+  through-lead ts {s = s} l r e q h = record { ends = unstopped-after ts (leadAt image index s) (partAt image index (s .to)) (spanned image index w loose b t) (rw (l .read, led-stepped s e q h) at r) }
 
   -- the first step
-  pub walk-lead : (pr : ℕ → Print) (f g : Bool → Print) (ts : List Part) (s : Span) → Through index image w loose b t → s .end ≡ 0 → next ≡ endAt index (s .to) → Spans index image w loose true next b t
-      → walkedAfter pr f g ts (led index image w loose b s) ≡ around pr f g (gapOf [] ts false) (s .to) (gapAt index image t) (eqb (t .end) 0) ⨟ walked pr f g (spanned index image w loose b t)
+  pub walk-lead : (pr : ℕ → Print) (f g : Bool → Print) (ts : List Part) (s : Span) → Through image index w loose b t → s .end ≡ 0 → next ≡ endAt index (s .to) → Spans image index w loose true next b t
+      → walkedAfter pr f g ts (led image index w loose b s) ≡ around pr f g (gapOf [] ts false) (s .to) (gapAt image index t) (eqb (t .end) 0) ⨟ walked pr f g (spanned image index w loose b t)
   unfolding walkedAfter
   walk-lead pr f g ts s u e q h = rw (led-stepped s e q h, fronted index image w loose b t (u .ends), tested index image w loose b t)

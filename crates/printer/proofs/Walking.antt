@@ -38,29 +38,29 @@ use Rattle.printer.proofs.Readings.{walks-first, walks-kid, walks-next}
 
 -- ---- what a survey says
 
-module _ (c : Class) {image index : List ℕ} {z : Bounds} {w : Kinds} {o : Outline} (k : w ≡ kinds c) (h : Surveyed index image w (z .loose) (z .from) (z .to) o) where
+module _ (c : Class) {image index : List ℕ} {z : Bounds} {w : Kinds} {o : Outline} (k : w ≡ kinds c) (h : Surveyed image index w (z .loose) (z .from) (z .to) o) where
   -- the reading comes to its end
-  pub survey-outlined : o .last .end ≡ 1 → Outlined index image (readAt index image c z nothing) o
+  pub survey-outlined : o .last .end ≡ 1 → Outlined image index (readAt image index c z nothing) o
   survey-outlined e = outlined _ (survey-reading c (rw k at h)) e
 
   -- a foreign element stands in it
-  pub survey-foreign : (o .last .end ≡ 1 → ⊥) → readAt index image c z nothing ≡ foreign (o .last .to)
+  pub survey-foreign : (o .last .end ≡ 1 → ⊥) → readAt image index c z nothing ≡ foreign (o .last .to)
   survey-foreign e = outlined-foreign index image o _ (survey-reading c (rw k at h)) e
 
 -- the same of a reading whose trailing list is what waits in the gap s
-module _ (c : Class) {image index : List ℕ} {z : Bounds} {w : Kinds} {s : Span} {o : Outline} (k : w ≡ kinds c) (h : SurveyedAfter index image w (z .loose) s (z .from) (z .to) o) where
-  pub after-outlined : o .last .end ≡ 1 → Outlined index image (readAt index image c z (some (gapAt index image s .waiting))) o
+module _ (c : Class) {image index : List ℕ} {z : Bounds} {w : Kinds} {s : Span} {o : Outline} (k : w ≡ kinds c) (h : SurveyedAfter image index w (z .loose) s (z .from) (z .to) o) where
+  pub after-outlined : o .last .end ≡ 1 → Outlined image index (readAt image index c z (some (gapAt image index s .waiting))) o
   after-outlined e = outlined _ (survey-after-reading c (rw k at h)) e
 
-  pub after-foreign : (o .last .end ≡ 1 → ⊥) → readAt index image c z (some (gapAt index image s .waiting)) ≡ foreign (o .last .to)
+  pub after-foreign : (o .last .end ≡ 1 → ⊥) → readAt image index c z (some (gapAt image index s .waiting)) ≡ foreign (o .last .to)
   after-foreign e = outlined-foreign index image o _ (survey-after-reading c (rw k at h)) e
 
 -- a reading that comes to its end has no foreign element
-pub outlined-whole : {index image : List ℕ} {r : Reading} {o : Outline} → Outlined index image r o → Whole r
+pub outlined-whole : {index image : List ℕ} {r : Reading} {o : Outline} → Outlined image index r o → Whole r
 outlined-whole x = record { kids = x .kids; ending = x .ending; is = x .is }
 
 -- and as many children as it says
-pub outlined-count : {index image : List ℕ} {r : Reading} {o : Outline} (n : ℕ) → Outlined index image r o → o .children ≡ n → length (kidsIn r) ≡ n
+pub outlined-count : {index image : List ℕ} {r : Reading} {o : Outline} (n : ℕ) → Outlined image index r o → o .children ≡ n → length (kidsIn r) ≡ n
 unfolding kidsIn
 outlined-count n x e = rw (x .is) (x .count ∙ e)
 
@@ -68,28 +68,28 @@ outlined-count n x e = rw (x .is) (x .count ∙ e)
 
 -- a gap before which nothing came
 module _ (index image : List ℕ) (s : Span) {t : Span} (e : t ≡ record { from = s .from; cut = s .cut; to = s .to; had = false; end = s .end }) where
-  pub unasked-lies : Lies index image s → Lies index image t
+  pub unasked-lies : Lies image index s → Lies image index t
   unasked-lies h = rw e (record { first = h .first; second = h .second })
 
   -- its child asks for no blank line
-  pub unasked-around : (pr : ℕ → Print) (f g : Bool → Print) (j : ℕ) (b : Gap) (m : Bool) → around pr f g (gapOf [] (gapAt index image s .waiting) false) j b m ≡ around pr f g (gapAt index image t) j b m
+  pub unasked-around : (pr : ℕ → Print) (f g : Bool → Print) (j : ℕ) (b : Gap) (m : Bool) → around pr f g (gapOf [] (gapAt image index s .waiting) false) j b m ≡ around pr f g (gapAt image index t) j b m
   unfolding around
   unasked-around pr f g j b m = rw e
 
 -- a gap by the class that the code has named
-pub spans-as : {index image : List ℕ} {w v : Kinds} {loose after : Bool} {from b : ℕ} {s : Span} → w ≡ v → Spans index image w loose after from b s → Spans index image v loose after from b s
+pub spans-as : {index image : List ℕ} {w v : Kinds} {loose after : Bool} {from b : ℕ} {s : Span} → w ≡ v → Spans image index w loose after from b s → Spans image index v loose after from b s
 spans-as e h = rw (← e) h
 
 module _ {image index : List ℕ} {i : ℕ} {w : Kinds} {loose : Bool} {b next : ℕ} {s : Span} (h : Walks image index i w loose b s) (e : s .end ≡ 0) (q : next ≡ endAt index (s .to)) where
   -- where it may be looked for
-  pub walks-region : Region index image next b
+  pub walks-region : Region image index next b
   walks-region =
       let t = table (h .at .indexed) in
       let k = walks-kid h e in
       rw q (record { n = _; table = t; begins = t .inside (s .to) (kid-at k .within); ends = omega (arith, h .inside, t .inside i (h .at .within)) })
 
   -- it ends further on
-  pub walks-less : {t : Span} → Spans index image w loose true next b t → b - t .to < b - s .to
+  pub walks-less : {t : Span} → Spans image index w loose true next b t → b - t .to < b - s .to
   walks-less k =
       let r = span-reached k in
       let p = table (h .at .indexed) .past (s .to) (kid-at (walks-kid h e) .within) in
@@ -100,21 +100,21 @@ module _ {image index : List ℕ} {i : ℕ} {w : Kinds} {loose : Bool} {b next :
 -- The children from the gap s on are still to be printed, of those from the gap s₀ on.
 pub record Walking (image index : List ℕ) (i : ℕ) (w : Kinds) (loose : Bool) (b : ℕ) (style : Style) (t : Test) (s₀ : Span) (o a : Held) (s : Span) : Type 0 where
   pub walks : Walks image index i w loose b s
-  pub goes : Goes (walked (under image i) (onLine style t) (behindIt style t) (spanned index image w loose b s₀)) (walked (under image i) (onLine style t) (behindIt style t) (spanned index image w loose b s)) o a
+  pub goes : Goes (walked (under image i) (onLine style t) (behindIt style t) (spanned image index w loose b s₀)) (walked (under image i) (onLine style t) (behindIt style t) (spanned image index w loose b s)) o a
 
 module _ {image index : List ℕ} {i : ℕ} {w : Kinds} {loose : Bool} {b : ℕ} {style : Style} {t : Test} {s : Span} {o : Held} where
   pub walking-none : (c : Class) → w ≡ kinds c → Walks image index i (kinds c) loose b s → Walking image index i w loose b style t s o o s
   walking-none c k h = record { walks = rw k h; goes = goes-none _ o }
 
-  pub walking-more : {s₀ g : Span} {a d : Held} {next : ℕ} → Walking image index i w loose b style t s₀ o a s → s .end ≡ 0 → next ≡ endAt index (s .to) → Spans index image w loose true next b g
-      → Prints (around (under image i) (onLine style t) (behindIt style t) (gapAt index image s) (s .to) (gapAt index image g) (eqb (g .end) 0)) a d → Walking image index i w loose b style t s₀ o d g
+  pub walking-more : {s₀ g : Span} {a d : Held} {next : ℕ} → Walking image index i w loose b style t s₀ o a s → s .end ≡ 0 → next ≡ endAt index (s .to) → Spans image index w loose true next b g
+      → Prints (around (under image i) (onLine style t) (behindIt style t) (gapAt image index s) (s .to) (gapAt image index g) (eqb (g .end) 0)) a d → Walking image index i w loose b style t s₀ o d g
   walking-more h e q k p = record {
     walks = walks-next (h .walks) e q k;
     goes = goes-more (h .goes) (walk-next (under image i) (onLine style t) (behindIt style t) (h .walks .through) e q k) p;
   }
 
   pub walking-all : (c : Class) {s₀ : Span} {a : Held} → w ≡ kinds c → Walking image index i w loose b style t s₀ o a s → (s .end ≡ 0 → ⊥)
-      → Prints (walked (under image i) (onLine style t) (behindIt style t) (spanned index image (kinds c) loose b s₀)) o a
+      → Prints (walked (under image i) (onLine style t) (behindIt style t) (spanned image index (kinds c) loose b s₀)) o a
   walking-all c k h e = rw (← k) (goes-all (h .goes) (walk-none index image w loose b s (under image i) (onLine style t) (behindIt style t) e))
 
 -- ---- children without what stands around them
@@ -122,24 +122,24 @@ module _ {image index : List ℕ} {i : ℕ} {w : Kinds} {loose : Bool} {b : ℕ}
 -- The values from the gap s on are still to be printed, of those from the gap s₀ on.
 pub record Valuing (image index : List ℕ) (i : ℕ) (w : Kinds) (loose : Bool) (b : ℕ) (s₀ : Span) (o a : Held) (s : Span) : Type 0 where
   pub walks : Walks image index i w loose b s
-  pub goes : Goes (valued (under image i) (spanned index image w loose b s₀)) (valued (under image i) (spanned index image w loose b s)) o a
+  pub goes : Goes (valued (under image i) (spanned image index w loose b s₀)) (valued (under image i) (spanned image index w loose b s)) o a
 
 module _ {image index : List ℕ} {i : ℕ} {w : Kinds} {s : Span} {o : Held} where
   pub valuing-more : {loose : Bool} {b : ℕ} {s₀ g : Span} {a d : Held} {next : ℕ} → Valuing image index i w loose b s₀ o a s → s .end ≡ 0 → next ≡ endAt index (s .to)
-      → Spans index image w loose true next b g → Prints (printOf image (s .to)) a d → Valuing image index i w loose b s₀ o d g
+      → Spans image index w loose true next b g → Prints (printOf image (s .to)) a d → Valuing image index i w loose b s₀ o d g
   valuing-more h e q k p = record {
     walks = walks-next (h .walks) e q k;
     goes = goes-more (h .goes) (value-next (under image i) s e q k) (by (kid-print (walks-kid (h .walks) e)) p);
   }
 
 module _ {image index : List ℕ} {i : ℕ} {w : Kinds} {z : Bounds} {s : Span} {o : Held} where
-  pub valuing-none : (c : Class) {out : Outline} → Within image index i z → w ≡ kinds c → Spans index image w (z .loose) false (z .from) (z .to) s → Outlined index image (readAt index image c z nothing) out
+  pub valuing-none : (c : Class) {out : Outline} → Within image index i z → w ≡ kinds c → Spans image index w (z .loose) false (z .from) (z .to) s → Outlined image index (readAt image index c z nothing) out
       → Valuing image index i w (z .loose) (z .to) s o o s
   valuing-none c h k p x = record { walks = rw k (walks-first c h (rw k at p) (outlined-whole x)); goes = goes-none _ o }
 
   -- the values of a reading
-  pub valuing-all : (c : Class) {s₀ : Span} {a : Held} {out : Outline} → w ≡ kinds c → Spans index image w (z .loose) false (z .from) (z .to) s₀ → Outlined index image (readAt index image c z nothing) out
-      → Valuing image index i w (z .loose) (z .to) s₀ o a s → (s .end ≡ 0 → ⊥) → Prints (valuesOf (under image i) (readAt index image c z nothing)) o a
+  pub valuing-all : (c : Class) {s₀ : Span} {a : Held} {out : Outline} → w ≡ kinds c → Spans image index w (z .loose) false (z .from) (z .to) s₀ → Outlined image index (readAt image index c z nothing) out
+      → Valuing image index i w (z .loose) (z .to) s₀ o a s → (s .end ≡ 0 → ⊥) → Prints (valuesOf (under image i) (readAt image index c z nothing)) o a
   unfolding valuesOf
   valuing-all c k p x h e =
       by (rw (x .is, value-read (under image i) _ (sym (whole c (z .loose) _) ∙ x .is), ← k, p .read))

@@ -47,11 +47,11 @@ following f g b m = f m ⨟ comments (b .inline) itemInline ⨟ g m
 
 -- a gap of a lent image and its lent index
 abbrev pub gapIn : Lent → Lent → Span → Gap
-gapIn image index s = gapAt (index .entry .now) (image .entry .now) s
+gapIn image index s = gapAt (image .entry .now) (index .entry .now) s
 
 -- what is behind the last child, from what a survey says
 abbrev pub endingOf : List ℕ → List ℕ → Outline → Ending
-endingOf index image o = record { blankLine = o .blank; trivia = gapAt index image (o .last) .waiting }
+endingOf image index o = record { blankLine = o .blank; trivia = gapAt image index (o .last) .waiting }
 
 -- from a list's bracket to its first group
 unfoldable pub openList : String → ℕ → Test → Print

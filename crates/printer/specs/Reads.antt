@@ -43,17 +43,17 @@ pub record Has (ps : List Part) (n : Option ℕ) : Type 0 where
 -- A reading of element i.
 pub record Within (image index : List ℕ) (i : ℕ) (z : Bounds) : Type 0 where
   pub at : At image index i
-  pub region : Region index image (z .from) (z .to)
-  pub reached : Stretch index image (i + 1) (z .from)
+  pub region : Region image index (z .from) (z .to)
+  pub reached : Stretch image index (i + 1) (z .from)
   pub inside : z .to ≤ endAt index i
 
 -- the reading of a class between two places
 abbrev pub readAt : List ℕ → List ℕ → Class → Bounds → Option (List Part) → Reading
-readAt index image c z trailing = pass c (z .loose) (partsFrom index image (z .from) (z .to)) (start trailing)
+readAt image index c z trailing = pass c (z .loose) (partsFrom image index (z .from) (z .to)) (start trailing)
 
 -- the same of a lent image and its lent index
 abbrev pub readIn : Lent → Lent → Class → Bounds → Option (List Part) → Reading
-readIn image index c z trailing = readAt (index .entry .now) (image .entry .now) c z trailing
+readIn image index c z trailing = readAt (image .entry .now) (index .entry .now) c z trailing
 
 -- No foreign element stands in a reading.
 pub record Whole (r : Reading) : Type 0 where
@@ -71,8 +71,8 @@ kidsIn (read cs e) = cs
 -- A walk over the children of element i may go on at the gap s.
 pub record Walks (image index : List ℕ) (i : ℕ) (w : Kinds) (loose : Bool) (b : ℕ) (s : Span) : Type 0 where
   pub at : At image index i
-  pub through : Through index image w loose b s
-  pub lies : Lies index image s
+  pub through : Through image index w loose b s
+  pub lies : Lies image index s
   pub onward : s .end ≡ 0 → s .to < b
-  pub reached : Stretch index image (i + 1) (s .to)
+  pub reached : Stretch image index (i + 1) (s .to)
   pub inside : b ≤ endAt index i

@@ -24,11 +24,11 @@ printOf image i = element (under image i) (kindIn image i) i (textIn image i) (t
 
 -- the parts of element i over the index
 abbrev pub partsOf : List ℕ → List ℕ → ℕ → List Part
-partsOf index image i = partsFrom index image (i + 1) (endAt index i)
+partsOf image index i = partsFrom image index (i + 1) (endAt index i)
 
 -- the same of a lent image and its lent index, as a contract names them
 abbrev pub partsIn : Lent → Lent → ℕ → List Part
-partsIn image index i = partsOf (index .entry .now) (image .entry .now) i
+partsIn image index i = partsOf (image .entry .now) (index .entry .now) i
 
 abbrev pub underIn : Lent → ℕ → ℕ → Print
 underIn image i = under (image .entry .now) i

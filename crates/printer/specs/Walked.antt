@@ -64,19 +64,19 @@ module _ (pr : ℕ → Print) (f g : Bool → Print) where
 -- ---- what a survey says
 
 -- A survey's outline of a reading that comes to its end.
-pub record Outlined (index image : List ℕ) (r : Reading) (o : Outline) : Type 0 where
+pub record Outlined (image index : List ℕ) (r : Reading) (o : Outline) : Type 0 where
   pub kids : List Child
   pub ending : Ending
   pub is : r ≡ read kids ending
   pub count : length kids ≡ o .children
   pub many : anyManyLines kids ≡ o .many
   pub blank : ending .blankLine ≡ o .blank
-  pub waits : ending .trivia ≡ gapAt index image (o .last) .waiting
+  pub waits : ending .trivia ≡ gapAt image index (o .last) .waiting
 
 -- ---- a walk over spans
 
 -- The reading from the span s on comes to its end.
-pub record Through (index image : List ℕ) (w : Kinds) (loose : Bool) (b : ℕ) (s : Span) : Type 0 where
-  pub ends : unstopped (spanned index image w loose b s) ≡ true
+pub record Through (image index : List ℕ) (w : Kinds) (loose : Bool) (b : ℕ) (s : Span) : Type 0 where
+  pub ends : unstopped (spanned image index w loose b s) ≡ true
 
 -- ---- the first step of a walk with a trailing list

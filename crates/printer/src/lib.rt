@@ -51,8 +51,8 @@ pub fn print_source(
     let e = first_of(image, index, ROOT, Class::Expr);
     let a = first_in(image, index, ROOT);
     let b = end_at(index, ROOT);
-    let before = trivia_before(index, image, e, a, b);
-    let after = trivia_after(index, image, e, a, b);
+    let before = trivia_before(image, index, e, a, b);
+    let after = trivia_after(image, index, e, a, b);
     let f = before.foreign;
     if let Found::At(x) = f {
         return stop_at(x, p);
@@ -76,16 +76,16 @@ fn print_whole(
     p: Printed,
 ) -> Printed
     requires { ⌜ At (now image) (now index) 0 ⌝ }
-    requires { ⌜ Has (partsOf (now index) (now image) 0) (found e) ⌝ }
-    requires { ⌜ Region (now index) (now image) (before .from) (before .to) ⌝ }
-    requires { ⌜ Region (now index) (now image) (after .from) (after .to) ⌝ }
-    ensures { λ r. ⌜ PrintsIn records texts p r ((comments (allOf notes (partsFrom (now (index .entry)) (now (image .entry)) (before .from) (before .to))) aboveItem) ⨟ numberOr (under (now (image .entry)) 0) (lit "/*missing Expr*/") (found e) ⨟ say newline ⨟ (comments (allOf notes (partsFrom (now (index .entry)) (now (image .entry)) (after .from) (after .to))) endOfItems)) ⌝ }
+    requires { ⌜ Has (partsOf (now image) (now index) 0) (found e) ⌝ }
+    requires { ⌜ Region (now image) (now index) (before .from) (before .to) ⌝ }
+    requires { ⌜ Region (now image) (now index) (after .from) (after .to) ⌝ }
+    ensures { λ r. ⌜ PrintsIn records texts p r ((comments (allOf notes (partsFrom (now (image .entry)) (now (index .entry)) (before .from) (before .to))) aboveItem) ⨟ numberOr (under (now (image .entry)) 0) (lit "/*missing Expr*/") (found e) ⨟ say newline ⨟ (comments (allOf notes (partsFrom (now (image .entry)) (now (index .entry)) (after .from) (after .to))) endOfItems)) ⌝ }
 {
     let q = print_notes(
         records,
         texts,
-        index,
         image,
+        index,
         before.from,
         before.to,
         CommentLocation::AboveItem,
@@ -105,8 +105,8 @@ fn print_whole(
     print_notes(
         records,
         texts,
-        index,
         image,
+        index,
         after.from,
         after.to,
         CommentLocation::EndOfItems,

@@ -156,16 +156,16 @@ pub fn print_above(
     s: Span,
     p: Printed,
 ) -> Printed
-    requires { ⌜ Lies (now index) (now image) s ⌝ }
+    requires { ⌜ Lies (now image) (now index) s ⌝ }
     ensures { λ r. ⌜ PrintsIn records texts p r (above (gapIn image index s)) ⌝ }
 {
-    let blank = blank_line(index, image, s);
+    let blank = blank_line(image, index, s);
     let a = newline_if(records, texts, blank, p);
     print_waiting(
         records,
         texts,
-        index,
         image,
+        index,
         s,
         CommentLocation::AboveItem,
         a,
@@ -183,7 +183,7 @@ pub fn print_behind(
     t: Condition,
     p: Printed,
 ) -> Printed
-    requires { ⌜ Lies (now index) (now image) g ⌝ }
+    requires { ⌜ Lies (now image) (now index) g ⌝ }
     ensures { λ r. ⌜ PrintsIn records texts p r (following (onLine style (conditionTest t)) (behindIt style (conditionTest t)) (gapIn image index g) (eqb (g .end) 0)) ⌝ }
 {
     let more = g.end == AT_CHILD;
@@ -191,8 +191,8 @@ pub fn print_behind(
     let b = print_inline(
         records,
         texts,
-        index,
         image,
+        index,
         g,
         CommentLocation::ItemInline,
         a,
@@ -209,16 +209,16 @@ pub fn print_ending(
     o: Outline,
     p: Printed,
 ) -> Printed
-    requires { ⌜ Lies (now index) (now image) (o .last) ⌝ }
-    ensures { λ r. ⌜ PrintsIn records texts p r (ending (endingOf (now (index .entry)) (now (image .entry)) o)) ⌝ }
+    requires { ⌜ Lies (now image) (now index) (o .last) ⌝ }
+    ensures { λ r. ⌜ PrintsIn records texts p r (ending (endingOf (now (image .entry)) (now (index .entry)) o)) ⌝ }
 {
     let a = newline_if(records, texts, o.blank, p);
     let last = o.last;
     print_waiting(
         records,
         texts,
-        index,
         image,
+        index,
         last,
         CommentLocation::EndOfItems,
         a,
@@ -308,8 +308,8 @@ pub fn close_list(
     p: Printed,
 ) -> Printed
     requires { ⌜ bracket < 50 ⌝ }
-    requires { ⌜ Lies (now index) (now image) (o .last) ⌝ }
-    ensures { λ r. ⌜ PrintsIn records texts p r (closeList (wordAt bracket) (k .0) (endingOf (now (index .entry)) (now (image .entry)) o)) ⌝ }
+    requires { ⌜ Lies (now image) (now index) (o .last) ⌝ }
+    ensures { λ r. ⌜ PrintsIn records texts p r (closeList (wordAt bracket) (k .0) (endingOf (now (image .entry)) (now (index .entry)) o)) ⌝ }
 {
     let a = print_signal(records, texts, Signal::FinishGroup, p);
     let b = print_ending(records, texts, image, index, o, a);
@@ -332,8 +332,8 @@ pub fn close_arguments(
     p: Printed,
 ) -> Printed
     requires { ⌜ bracket < 50 ⌝ }
-    requires { ⌜ Lies (now index) (now image) (o .last) ⌝ }
-    ensures { λ r. ⌜ PrintsIn records texts p r (closeArguments (wordAt bracket) (k .0) (endingOf (now (index .entry)) (now (image .entry)) o)) ⌝ }
+    requires { ⌜ Lies (now image) (now index) (o .last) ⌝ }
+    ensures { λ r. ⌜ PrintsIn records texts p r (closeArguments (wordAt bracket) (k .0) (endingOf (now (image .entry)) (now (index .entry)) o)) ⌝ }
 {
     let a = end_body(records, texts, k, p);
     let b = print_signal(records, texts, Signal::NewLine, a);
@@ -411,11 +411,11 @@ pub fn close_word(l: ListKind) -> u32
 
 // Whether a list prints as empty: no child, no blank line and nothing behind.
 pub fn is_empty(image: &[u8], index: &[u32], o: Outline) -> bool
-    requires { ⌜ Lies (now index) (now image) (o .last) ⌝ }
+    requires { ⌜ Lies (now image) (now index) (o .last) ⌝ }
     ensures { λ r. ⌜ r ≡ ((eqb (o .children) 0 && not (o .blank)) && isNil (gapIn image index (o .last) .waiting)) ⌝ }
 {
     let last = o.last;
-    let nothing = nothing_waits(index, image, last);
+    let nothing = nothing_waits(image, index, last);
     (o.children == 0) & !o.blank & nothing
 }
 
@@ -450,8 +450,8 @@ pub fn close_binds(
     o: Outline,
     p: Printed,
 ) -> Printed
-    requires { ⌜ Lies (now index) (now image) (o .last) ⌝ }
-    ensures { λ r. ⌜ PrintsIn records texts p r (ending (endingOf (now (index .entry)) (now (image .entry)) o) ⨟ say outdent) ⌝ }
+    requires { ⌜ Lies (now image) (now index) (o .last) ⌝ }
+    ensures { λ r. ⌜ PrintsIn records texts p r (ending (endingOf (now (image .entry)) (now (index .entry)) o) ⨟ say outdent) ⌝ }
 {
     let a = print_ending(records, texts, image, index, o, p);
     print_signal(records, texts, Signal::FinishIndent, a)

@@ -5,7 +5,6 @@ use super::rows::kinds_wanted;
 use super::rows::place_wanted;
 use children::between::Bounds;
 use children::between::bounds_between;
-use children::survey::is_nothing;
 use tree::Found;
 use tree::access::end_at;
 use tree::access::last_of;
@@ -13,6 +12,8 @@ use tree::access::nth_of;
 use tree::access::plus_of;
 use tree::class::Class;
 use tree::class::kinds_of;
+use tree::is_nothing;
+use tree::or_else;
 ghost use mathlib.Core.Path.{_≡_};
 ghost use Prim.Native.Nat.{_+_, _<_};
 ghost use Rattle.text.specs.Basic.{any, orElse};
@@ -42,7 +43,7 @@ pub fn first_of(image: &[u8], index: &[u32], i: u32, c: Class) -> Found
 {
     let a = first_in(image, index, i);
     let b = end_at(index, i);
-    nth_of(index, image, kinds_of(c), 0, a, b)
+    nth_of(image, index, kinds_of(c), 0, a, b)
 }
 
 // The wanted part with a number.
@@ -53,7 +54,7 @@ pub fn wanted_part(image: &[u8], index: &[u32], i: u32, w: u32) -> Found
 {
     let a = first_in(image, index, i);
     let b = end_at(index, i);
-    nth_of(index, image, kinds_wanted(w), place_wanted(w), a, b)
+    nth_of(image, index, kinds_wanted(w), place_wanted(w), a, b)
 }
 
 // Whether the wanted part with a number is there; number 0 is none.
@@ -94,39 +95,29 @@ pub fn part_of(image: &[u8], index: &[u32], i: u32, x: Entry) -> Found
     }
     let a = first_in(image, index, i);
     let b = end_at(index, i);
-    plus_of(index, image, a, b)
+    plus_of(image, index, a, b)
 }
 
 // The reading between the first tokens of two classes.
 pub fn enclosed(image: &[u8], index: &[u32], i: u32, opening: Class, closing: Class) -> Bounds
     requires { ⌜ At (now image) (now index) i ⌝ }
-    ensures { λ r. ⌜ Bounded (now (index .entry)) (now (image .entry)) (i + 1) (endAt (now (index .entry)) i) (numberOf (first opening (partsIn image index i))) (numberOf (first closing (partsIn image index i))) r ⌝ }
+    ensures { λ r. ⌜ Bounded (now (image .entry)) (now (index .entry)) (i + 1) (endAt (now (index .entry)) i) (numberOf (first opening (partsIn image index i))) (numberOf (first closing (partsIn image index i))) r ⌝ }
 {
     let start = first_of(image, index, i, opening);
     let end = first_of(image, index, i, closing);
     let a = first_in(image, index, i);
-    bounds_between(index, image, start, end, a, end_at(index, i))
-}
-
-// The first if there is one, else the second.
-fn or_else(first: Found, second: Found) -> Found
-    ensures { λ r. ⌜ found r ≡ orElse (found first) (found second) ⌝ }
-{
-    match first {
-        Found::At(_) => first,
-        Found::Nothing => second,
-    }
+    bounds_between(image, index, start, end, a, end_at(index, i))
 }
 
 // The second reading of an object comprehension, of its CompSpecs.
 pub fn spec_bounds(image: &[u8], index: &[u32], i: u32) -> Bounds
     requires { ⌜ At (now image) (now index) i ⌝ }
-    ensures { λ r. ⌜ Bounded (now (index .entry)) (now (image .entry)) (i + 1) (endAt (now (index .entry)) i) (numberOf (orElse (last MemberComp (partsIn image index i)) (first LBrace (partsIn image index i)))) (numberOf (first RBrace (partsIn image index i))) r ⌝ }
+    ensures { λ r. ⌜ Bounded (now (image .entry)) (now (index .entry)) (i + 1) (endAt (now (index .entry)) i) (numberOf (orElse (last MemberComp (partsIn image index i)) (first LBrace (partsIn image index i)))) (numberOf (first RBrace (partsIn image index i))) r ⌝ }
 {
     let a = first_in(image, index, i);
     let b = end_at(index, i);
-    let last = last_of(index, image, kinds_of(Class::MemberComp), a, b);
+    let last = last_of(image, index, kinds_of(Class::MemberComp), a, b);
     let start = or_else(last, first_of(image, index, i, Class::LBrace));
     let end = first_of(image, index, i, Class::RBrace);
-    bounds_between(index, image, start, end, a, b)
+    bounds_between(image, index, start, end, a, b)
 }

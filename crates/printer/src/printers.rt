@@ -46,7 +46,6 @@ use children::gap::gap;
 use children::gap::lead;
 use children::print::print_waiting;
 use children::survey::Outline;
-use children::survey::is_nothing;
 use children::survey::survey;
 use children::survey::survey_after;
 use comments::CommentLocation;
@@ -65,6 +64,7 @@ use tree::access::text_at;
 use tree::class::Class;
 use tree::class::is;
 use tree::class::kinds_of;
+use tree::is_nothing;
 ghost use mathlib.Core.Path.{_≡_};
 ghost use mathlib.Core.Option.{none, some};
 ghost use mathlib.Core.List.{[], _∷_};
@@ -125,9 +125,9 @@ fn token(
     i: u32,
     p: Printed,
 ) -> Printed
-    ensures { λ r. ⌜ PrintsIn records texts p r (say (text (textAt (now (index .entry)) (now (image .entry)) i))) ⌝ }
+    ensures { λ r. ⌜ PrintsIn records texts p r (say (text (textAt (now (image .entry)) (now (index .entry)) i))) ⌝ }
 {
-    let s = text_at(index, image, i);
+    let s = text_at(image, index, i);
     print_text(records, texts, s, p)
 }
 
@@ -273,7 +273,7 @@ pub fn part(
     p: Printed,
 ) -> Printed
     requires { ⌜ At (now image) (now index) i ⌝ }
-    requires { ⌜ Has (partsOf (now index) (now image) i) (found f) ⌝ }
+    requires { ⌜ Has (partsOf (now image) (now index) i) (found f) ⌝ }
     requires { ⌜ missing < 50 ⌝ }
     ensures { λ r. ⌜ PrintsIn records texts p r (numberOr (underIn image i) (wordOrNone missing) (found f)) ⌝ }
 {
@@ -322,7 +322,7 @@ fn one(
     requires { ⌜ Kid (now image) (now index) i j ⌝ }
     requires { ⌜ x .want < 34 ⌝ }
     requires { ⌜ x .word < 50 ⌝ }
-    ensures { λ r. ⌜ PrintsIn records texts p r (eachOf (underIn image i) (wantAt (x .want) .class) (wordAt (x .word)) (eqb (x .what) 6) (partAt (now (index .entry)) (now (image .entry)) j ∷ [])) ⌝ }
+    ensures { λ r. ⌜ PrintsIn records texts p r (eachOf (underIn image i) (wantAt (x .want) .class) (wordAt (x .word)) (eqb (x .what) 6) (partAt (now (image .entry)) (now (index .entry)) j ∷ [])) ⌝ }
 {
     if !is(kinds_wanted(x.want), kind_at(index, j)) {
         return p;
@@ -347,8 +347,8 @@ fn expr(
     let base = first_of(image, index, i, Class::ExprBase);
     let a = first_in(image, index, i);
     let b = end_at(index, i);
-    let y = bounds_between(index, image, Found::Nothing, base, a, b);
-    let z = bounds_between(index, image, base, Found::Nothing, a, b);
+    let y = bounds_between(image, index, Found::Nothing, base, a, b);
+    let z = bounds_between(image, index, base, Found::Nothing, a, b);
     let q = values(records, texts, image, index, i, Class::Stmt, y, p);
     let r = part(
         records,
@@ -378,15 +378,15 @@ fn values(
     ensures { λ r. ⌜ PrintsIn records texts p r (valuesOf (underIn image i) (readIn image index c z none)) ⌝ }
 {
     let w = kinds_of(c);
-    let o = survey(index, image, w, z.loose, z.from, z.to);
+    let o = survey(image, index, w, z.loose, z.from, z.to);
     if o.last.end != AT_END {
         return stop_at(Element(o.last.to), p);
     }
-    let mut s = gap(index, image, w, z.loose, false, z.from, z.to);
+    let mut s = gap(image, index, w, z.loose, false, z.from, z.to);
     let mut q = p;
     while s.end == AT_CHILD {
         q = node(records, texts, image, index, s.to, q);
-        s = gap(index, image, w, z.loose, true, end_at(index, s.to), z.to);
+        s = gap(image, index, w, z.loose, true, end_at(index, s.to), z.to);
     }
     q
 }
@@ -407,13 +407,13 @@ fn kids(
     p: Printed,
 ) -> Printed
     requires { ⌜ Walks (now image) (now index) i (kinds c) loose b first ⌝ }
-    ensures { λ r. ⌜ PrintsIn records texts p r (walked (underIn image i) (onLine style (conditionTest t)) (behindIt style (conditionTest t)) (spanned (now (index .entry)) (now (image .entry)) (kinds c) loose b first)) ⌝ }
+    ensures { λ r. ⌜ PrintsIn records texts p r (walked (underIn image i) (onLine style (conditionTest t)) (behindIt style (conditionTest t)) (spanned (now (image .entry)) (now (index .entry)) (kinds c) loose b first)) ⌝ }
 {
     let w = kinds_of(c);
     let mut s = first;
     let mut q = p;
     while s.end == AT_CHILD {
-        let g = gap(index, image, w, loose, true, end_at(index, s.to), b);
+        let g = gap(image, index, w, loose, true, end_at(index, s.to), b);
         q = child(records, texts, image, index, i, s, s.to, g, style, t, q);
         s = g;
     }
@@ -434,11 +434,11 @@ fn items(
     p: Printed,
 ) -> Printed
     requires { ⌜ Within (now image) (now index) i z ⌝ }
-    requires { ⌜ Whole (readAt (now index) (now image) c z none) ⌝ }
+    requires { ⌜ Whole (readAt (now image) (now index) c z none) ⌝ }
     ensures { λ r. ⌜ PrintsIn records texts p r (children (underIn image i) (onLine style (conditionTest t)) (behindIt style (conditionTest t)) (kidsIn (readIn image index c z none))) ⌝ }
 {
     let w = kinds_of(c);
-    let s = gap(index, image, w, z.loose, false, z.from, z.to);
+    let s = gap(image, index, w, z.loose, false, z.from, z.to);
     kids(
         records,
         texts,
@@ -470,8 +470,8 @@ fn child(
     p: Printed,
 ) -> Printed
     requires { ⌜ Kid (now image) (now index) i j ⌝ }
-    requires { ⌜ Lies (now index) (now image) s ⌝ }
-    requires { ⌜ Lies (now index) (now image) g ⌝ }
+    requires { ⌜ Lies (now image) (now index) s ⌝ }
+    requires { ⌜ Lies (now image) (now index) g ⌝ }
     ensures { λ r. ⌜ PrintsIn records texts p r (around (underIn image i) (onLine style (conditionTest t)) (behindIt style (conditionTest t)) (gapIn image index s) j (gapIn image index g) (eqb (g .end) 0)) ⌝ }
 {
     let a = print_above(records, texts, image, index, s, p);
@@ -494,7 +494,7 @@ fn list(
 {
     let z = enclosed(image, index, i, opener(l), closer(l));
     let c = child_class(l);
-    let o = survey(index, image, kinds_of(c), z.loose, z.from, z.to);
+    let o = survey(image, index, kinds_of(c), z.loose, z.from, z.to);
     if o.last.end != AT_END {
         return stop_at(Element(o.last.to), p);
     }
@@ -522,7 +522,7 @@ fn args(
     ensures { λ r. ⌜ PrintsIn records texts p r (arguments (underIn image i) (enclosed Arg LParen RParen (partsIn image index i))) ⌝ }
 {
     let z = enclosed(image, index, i, Class::LParen, Class::RParen);
-    let o = survey(index, image, kinds_of(Class::Arg), z.loose, z.from, z.to);
+    let o = survey(image, index, kinds_of(Class::Arg), z.loose, z.from, z.to);
     if o.last.end != AT_END {
         return stop_at(Element(o.last.to), p);
     }
@@ -562,8 +562,8 @@ fn comp(
     }
     let brace = first_of(image, index, i, Class::LBrace);
     let a = first_in(image, index, i);
-    let y = bounds_between(index, image, brace, spec, a, end_at(index, i));
-    let m = survey(index, image, kinds_of(Class::Member), y.loose, y.from, y.to);
+    let y = bounds_between(image, index, brace, spec, a, end_at(index, i));
+    let m = survey(image, index, kinds_of(Class::Member), y.loose, y.from, y.to);
     if m.last.end != AT_END {
         return stop_at(Element(m.last.to), p);
     }
@@ -582,13 +582,13 @@ fn body(
     p: Printed,
 ) -> Printed
     requires { ⌜ Within (now image) (now index) i y ⌝ }
-    requires { ⌜ Lies (now index) (now image) (m .last) ⌝ }
-    requires { ⌜ Outlined (now index) (now image) (readAt (now index) (now image) Member y none) m ⌝ }
+    requires { ⌜ Lies (now image) (now index) (m .last) ⌝ }
+    requires { ⌜ Outlined (now image) (now index) (readAt (now image) (now index) Member y none) m ⌝ }
     ensures { λ r. ⌜ PrintsIn records texts p r (compOf (underIn image i) (partsIn image index i) (readIn image index Member y none)) ⌝ }
 {
     let z = spec_bounds(image, index, i);
     let w = kinds_of(Class::CompSpec);
-    let o = survey_after(index, image, w, z.loose, m.last, z.from, z.to);
+    let o = survey_after(image, index, w, z.loose, m.last, z.from, z.to);
     if o.last.end != AT_END {
         return stop_at(Element(o.last.to), p);
     }
@@ -626,16 +626,16 @@ fn specs(
     p: Printed,
 ) -> Printed
     requires { ⌜ Within (now image) (now index) i z ⌝ }
-    requires { ⌜ Lies (now index) (now image) trailing ⌝ }
-    requires { ⌜ Whole (readAt (now index) (now image) CompSpec z (some (gapAt (now index) (now image) trailing .waiting))) ⌝ }
+    requires { ⌜ Lies (now image) (now index) trailing ⌝ }
+    requires { ⌜ Whole (readAt (now image) (now index) CompSpec z (some (gapAt (now image) (now index) trailing .waiting))) ⌝ }
     ensures { λ r. ⌜ PrintsIn records texts p r (children (underIn image i) (onLine Specs (conditionTest t)) (behindIt Specs (conditionTest t)) (kidsIn (readIn image index CompSpec z (some (gapIn image index trailing .waiting))))) ⌝ }
 {
     let w = kinds_of(Class::CompSpec);
-    let s = lead(index, image, w, z.loose, z.from, z.to);
+    let s = lead(image, index, w, z.loose, z.from, z.to);
     if s.end != AT_CHILD {
         return p;
     }
-    let g = gap(index, image, w, z.loose, true, end_at(index, s.to), z.to);
+    let g = gap(image, index, w, z.loose, true, end_at(index, s.to), z.to);
     let before = unasked(trailing);
     let q = child(
         records,
@@ -696,7 +696,7 @@ fn binds(
     ensures { λ r. ⌜ PrintsIn records texts p r (localOf (underIn image i) (enclosed Bind Local Semi (partsIn image index i))) ⌝ }
 {
     let z = enclosed(image, index, i, Class::Local, Class::Semi);
-    let o = survey(index, image, kinds_of(Class::Bind), z.loose, z.from, z.to);
+    let o = survey(image, index, kinds_of(Class::Bind), z.loose, z.from, z.to);
     if o.last.end != AT_END {
         return stop_at(Element(o.last.to), p);
     }
@@ -730,17 +730,17 @@ fn lone(
     p: Printed,
 ) -> Printed
     requires { ⌜ Within (now image) (now index) i z ⌝ }
-    requires { ⌜ Whole (readAt (now index) (now image) Bind z none) ⌝ }
-    requires { ⌜ length (kidsIn (readAt (now index) (now image) Bind z none)) ≡ 1 ⌝ }
+    requires { ⌜ Whole (readAt (now image) (now index) Bind z none) ⌝ }
+    requires { ⌜ length (kidsIn (readAt (now image) (now index) Bind z none)) ≡ 1 ⌝ }
     ensures { λ r. ⌜ PrintsIn records texts p r (localOf (underIn image i) (readIn image index Bind z none)) ⌝ }
 {
     let w = kinds_of(Class::Bind);
-    let s = gap(index, image, w, z.loose, false, z.from, z.to);
+    let s = gap(image, index, w, z.loose, false, z.from, z.to);
     let a = print_waiting(
         records,
         texts,
-        index,
         image,
+        index,
         s,
         CommentLocation::AboveItem,
         p,

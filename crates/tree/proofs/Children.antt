@@ -206,11 +206,11 @@ module _ {image index : List ℕ} (x : Indexed image index) where
       go (no p) = let q : i ≡ countN image = omega arith in rw q (x .entries .last .starts)
 
   -- the part of the image that the index gives
-  pub text-at : (i : ℕ) → i < countN image → textAt index image i ≡ between image i (endIn image i)
+  pub text-at : (i : ℕ) → i < countN image → textAt image index i ≡ between image i (endIn image i)
   unfolding textAt
   text-at i h = rw (end-at i h, start-at (endIn image i) (end-in image i h), start-at i (omega arith)) (between-places image i (endIn image i))
 
-  pub part-at : (i : ℕ) → i < countN image → partAt index image i ≡ partIn image i
+  pub part-at : (i : ℕ) → i < countN image → partAt image index i ≡ partIn image i
   part-at i h = rw (kind-at i h, text-at i h)
 
   -- behind the last child
@@ -219,25 +219,25 @@ module _ {image index : List ℕ} (x : Indexed image index) where
       let q : endIn image i ≡ j = omega (arith, c .upto) in
       rw q at (parts-none indexed-accepted i (c .node))
 
-  walked : (f i j : ℕ) → Child image i j → endIn image i ≤ j + f → walk f index image j (endIn image i) ≡ partsUnder image i j
+  walked : (f i j : ℕ) → Child image i j → endIn image i ≤ j + f → walk f image index j (endIn image i) ≡ partsUnder image i j
   unfolding walk
   walked zero i j c h = sym (at-end i j c (omega arith))
   walked (suc f) i j c h = go (decLt j (endIn image i)) (walked f i (endIn image j))
     where
-      go : Dec (j < endIn image i) → (Child image i (endIn image j) → endIn image i ≤ endIn image j + f → walk f index image (endIn image j) (endIn image i) ≡ partsUnder image i (endIn image j))
-          → walk (suc f) index image j (endIn image i) ≡ partsUnder image i j
+      go : Dec (j < endIn image i) → (Child image i (endIn image j) → endIn image i ≤ endIn image j + f → walk f image index (endIn image j) (endIn image i) ≡ partsUnder image i (endIn image j))
+          → walk (suc f) image index j (endIn image i) ≡ partsUnder image i j
       go (yes p) r =
           let n : j < countN image = omega (arith, end-in image i (c .node)) in
-          let q : walk f index image (endIn image j) (endIn image i) ≡ partsUnder image i (endIn image j) = r (child-next indexed-accepted c p) (omega (arith, end-past image j)) in
+          let q : walk f image index (endIn image j) (endIn image i) ≡ partsUnder image i (endIn image j) = r (child-next indexed-accepted c p) (omega (arith, end-past image j)) in
           rw (lt-ltb j (endIn image i) p, part-at j n, end-at j n, q) (sym (parts-here indexed-accepted c p))
       go (no p) r = rw (le-ltb j (endIn image i) (omega arith)) (sym (at-end i j c (omega arith)))
 
   -- the children from j on, by jumps, are those of the tree
-  pub parts-from : (i j : ℕ) → Child image i j → partsFrom index image j (endAt index i) ≡ partsUnder image i j
+  pub parts-from : (i j : ℕ) → Child image i j → partsFrom image index j (endAt index i) ≡ partsUnder image i j
   unfolding partsFrom
   parts-from i j c = rw (end-at i (c .node)) (walked (endIn image i - j) i j c (omega arith))
 
-  pub children : (i : ℕ) → i < countN image → partsFrom index image (i + 1) (endAt index i) ≡ partsUnder image i (i + 1)
+  pub children : (i : ℕ) → i < countN image → partsFrom image index (i + 1) (endAt index i) ≡ partsUnder image i (i + 1)
   children i h = parts-from i (i + 1) (child-first indexed-accepted i h)
 
   -- a child's subtree lies within its parent's
@@ -247,7 +247,7 @@ module _ {image index : List ℕ} (x : Indexed image index) where
       rw (end-at i (c .node), end-at j (omega (arith, end-in image i (c .node)))) (end-under image i j (c .node) (c .behind) g)
 
   -- the index is a table of spans of the image
-  pub table : Table index image (countN image)
+  pub table : Table image index (countN image)
   table =
       record {
         size = x .entries .room;
@@ -258,13 +258,13 @@ module _ {image index : List ℕ} (x : Indexed image index) where
       }
 
   -- the children of element i, from j on, may be walked
-  pub region-under : (i j : ℕ) → Child image i j → Region index image j (endAt index i)
+  pub region-under : (i j : ℕ) → Child image i j → Region image index j (endAt index i)
   region-under i j c =
       let e : endIn image i ≤ countN image = end-in image i (c .node) in
       record { n = countN image; table = table; begins = omega (arith, c .upto); ends = rw (end-at i (c .node)) e }
 
   -- all of them, in the terms of the code: a and b are where the children begin and end
-  pub region-of : {a b : ℕ} (i : ℕ) → i < countN image → a ≡ i + 1 → b ≡ endAt index i → Region index image a b
+  pub region-of : {a b : ℕ} (i : ℕ) → i < countN image → a ≡ i + 1 → b ≡ endAt index i → Region image index a b
   region-of i h q r = rw (q, r) (region-under i (i + 1) (child-first indexed-accepted i h))
 
 -- what a caller knows of an image that the tests let pass

@@ -15,19 +15,19 @@ use Rattle.tree.specs.Index.{endAt, partAt, partsFrom, Region}
 use Rattle.tree.proofs.Siblings.{region-part, region-past, region-next, parts-over}
 
 -- G is what the walk gives of the siblings that are left; v is what the whole walk gives.
-pub record Looking {A : Type 0} (index text : List ℕ) (b : ℕ) (G : List Part → A) (v : A) (j : ℕ) : Type 0 where
-  pub region : Region index text j b
-  pub rest : G (partsFrom index text j b) ≡ v
+pub record Looking {A : Type 0} (index image : List ℕ) (b : ℕ) (G : List Part → A) (v : A) (j : ℕ) : Type 0 where
+  pub region : Region image index j b
+  pub rest : G (partsFrom image index j b) ≡ v
 
-module _ {A : Type 0} {index text : List ℕ} {b : ℕ} {G : List Part → A} {v : A} {j : ℕ} (s : Looking index text b G v j) where
-  pub looking-on : {k : ℕ} (F : List Part → A) → j < b → k ≡ endAt index j → ((xs : List Part) → G (partAt index text j ∷ xs) ≡ F xs) → Looking index text b F v k
-  looking-on F h e g = rw e (record { region = region-next (s .region) h; rest = sym (ap G (region-part (s .region) h) ∙ g (partsFrom index text (endAt index j) b)) ∙ s .rest })
+module _ {A : Type 0} {index image : List ℕ} {b : ℕ} {G : List Part → A} {v : A} {j : ℕ} (s : Looking index image b G v j) where
+  pub looking-on : {k : ℕ} (F : List Part → A) → j < b → k ≡ endAt index j → ((xs : List Part) → G (partAt image index j ∷ xs) ≡ F xs) → Looking index image b F v k
+  looking-on F h e g = rw e (record { region = region-next (s .region) h; rest = sym (ap G (region-part (s .region) h) ∙ g (partsFrom image index (endAt index j) b)) ∙ s .rest })
 
-  pub looking-met : (x : A) → j < b → ((xs : List Part) → G (partAt index text j ∷ xs) ≡ x) → x ≡ v
-  looking-met x h g = sym (ap G (region-part (s .region) h) ∙ g (partsFrom index text (endAt index j) b)) ∙ s .rest
+  pub looking-met : (x : A) → j < b → ((xs : List Part) → G (partAt image index j ∷ xs) ≡ x) → x ≡ v
+  looking-met x h g = sym (ap G (region-part (s .region) h) ∙ g (partsFrom image index (endAt index j) b)) ∙ s .rest
 
   pub looking-all : (x : A) → b ≤ j → G [] ≡ x → x ≡ v
-  looking-all x h g = sym (ap G (parts-over index text j b h) ∙ g) ∙ s .rest
+  looking-all x h g = sym (ap G (parts-over index image j b h) ∙ g) ∙ s .rest
 
   pub looking-less : {k : ℕ} → j < b → k ≡ endAt index j → b - k < b - j
   looking-less h e = omega (arith, region-past (s .region) h)

@@ -23,9 +23,9 @@ pub front-whole : (s : List ℕ) (n : ℕ) → length s < n → s ≡ take n s
 front-whole s n h = sym (take-all n s (omega arith))
 
 -- the text of an element, from its two ends
-pub text-as : (index text : List ℕ) (i : ℕ) {s k e g : ℕ} {m r : List ℕ} → s ≡ startAt index i → k ≡ endAt index i → e ≡ startAt index k → g ≡ e - s → m ≡ drop s text → r ≡ take g m → r ≡ textAt index text i
+pub text-as : (index image : List ℕ) (i : ℕ) {s k e g : ℕ} {m r : List ℕ} → s ≡ startAt index i → k ≡ endAt index i → e ≡ startAt index k → g ≡ e - s → m ≡ drop s image → r ≡ take g m → r ≡ textAt image index i
 unfolding textAt
-text-as index text i p q u v x y = rw (y, x, v, u, q, p)
+text-as index image i p q u v x y = rw (y, x, v, u, q, p)
 
 -- the one byte `+`
 pub sign-other : (s : List ℕ) → (length s ≡ 1 → ⊥) → false ≡ sameBytes s (43 ∷ [])

@@ -65,33 +65,33 @@ pub record Filled (image before after : List ℕ) : Type 0 where
 
 -- the joined text of the tokens under element i
 unfoldable pub textAt : List ℕ → List ℕ → ℕ → List ℕ
-textAt index text i = take (startAt index (endAt index i) - startAt index i) (drop (startAt index i) text)
+textAt image index i = take (startAt index (endAt index i) - startAt index i) (drop (startAt index i) image)
 
 -- element i as its parent sees it
 abbrev pub partAt : List ℕ → List ℕ → ℕ → Part
-partAt index text i = record { number = i; kind = kindAt index i; text = textAt index text i }
+partAt image index i = record { number = i; kind = kindAt index i; text = textAt image index i }
 
 -- at most n siblings, from a on, that begin before b
 unfoldable pub walk : ℕ → List ℕ → List ℕ → ℕ → ℕ → List Part
-walk zero index text a b = []
-walk (suc n) index text a b = cond (ltb a b) (partAt index text a ∷ walk n index text (endAt index a) b) []
+walk zero image index a b = []
+walk (suc n) image index a b = cond (ltb a b) (partAt image index a ∷ walk n image index (endAt index a) b) []
 
 -- the siblings from a on that begin before b
 unfoldable pub partsFrom : List ℕ → List ℕ → ℕ → ℕ → List Part
-partsFrom index text a b = walk (b - a) index text a b
+partsFrom image index a b = walk (b - a) image index a b
 
 -- The index has n elements and an entry for the end of the texts; ends lie behind their elements, and texts do not go back.
-pub record Table (index text : List ℕ) (n : ℕ) : Type 0 where
+pub record Table (image index : List ℕ) (n : ℕ) : Type 0 where
   pub size : n * 3 + 3 ≤ length index
   pub past : (i : ℕ) → i < n → i < endAt index i
   pub inside : (i : ℕ) → i < n → endAt index i ≤ n
   pub forward : (i j : ℕ) → i ≤ j → j ≤ n → startAt index i ≤ startAt index j
-  pub whole : startAt index n ≡ length text
+  pub whole : startAt index n ≡ length image
 
 -- A walk may go on at a, up to b.
-pub record Region (index text : List ℕ) (a b : ℕ) : Type 0 where
+pub record Region (image index : List ℕ) (a b : ℕ) : Type 0 where
   pub n : ℕ
-  pub table : Table index text n
+  pub table : Table image index n
   pub begins : a ≤ n
   pub ends : b ≤ n
 

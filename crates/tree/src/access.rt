@@ -52,27 +52,27 @@ pub fn start_at(index: &[u32], i: u32) -> u32
 }
 
 // How far b lies behind a.
-fn gap(a: u32, b: u32) -> usize
+fn distance(a: u32, b: u32) -> usize
     ensures { λ r. ⌜ r ≡ b - a ⌝ }
 {
     if a <= b { (b - a) as usize } else { 0 }
 }
 
 // The joined text of the tokens under element i.
-pub fn text_at<'a>(index: &[u32], text: &'a [u8], i: u32) -> &'a [u8]
-    ensures { λ r. ⌜ now r ≡ textAt (now (index .entry)) (now (text .entry)) i ⌝ }
+pub fn text_at<'a>(image: &'a [u8], index: &[u32], i: u32) -> &'a [u8]
+    ensures { λ r. ⌜ now r ≡ textAt (now (image .entry)) (now (index .entry)) i ⌝ }
 {
     let start = start_at(index, i);
     let end = start_at(index, end_at(index, i));
-    bytes::front(bytes::behind(text, start as usize), gap(start, end))
+    bytes::front(bytes::behind(image, start as usize), distance(start, end))
 }
 
 // Element i is an operator with text `+`.
-pub fn is_plus(index: &[u32], text: &[u8], i: u32) -> bool
-    ensures { λ r. ⌜ r ≡ isPlus (partAt (now (index .entry)) (now (text .entry)) i) ⌝ }
+pub fn is_plus(image: &[u8], index: &[u32], i: u32) -> bool
+    ensures { λ r. ⌜ r ≡ isPlus (partAt (now (image .entry)) (now (index .entry)) i) ⌝ }
 {
     let operator = is(kinds_of(Class::Operator), kind_at(index, i));
-    let s = text_at(index, text, i);
+    let s = text_at(image, index, i);
     operator & is_plus_sign(s)
 }
 
@@ -100,9 +100,9 @@ fn count_down(left: u32, counts: bool) -> u32
 }
 
 // The n-th part of these kinds, from 0, of the siblings from a on that begin before b.
-pub fn nth_of(index: &[u32], text: &[u8], w: Kinds, n: u32, a: u32, b: u32) -> Found
-    requires { ⌜ Region (now index) (now text) a b ⌝ }
-    ensures { λ r. ⌜ found r ≡ numberOf (nthOf w n (partsFrom (now (index .entry)) (now (text .entry)) a b)) ⌝ }
+pub fn nth_of(image: &[u8], index: &[u32], w: Kinds, n: u32, a: u32, b: u32) -> Found
+    requires { ⌜ Region (now image) (now index) a b ⌝ }
+    ensures { λ r. ⌜ found r ≡ numberOf (nthOf w n (partsFrom (now (image .entry)) (now (index .entry)) a b)) ⌝ }
 {
     let mut left = n;
     let mut j = a;
@@ -125,9 +125,9 @@ fn later(last: Found, counts: bool, j: u32) -> Found
 }
 
 // The last part of these kinds of the siblings from a on that begin before b.
-pub fn last_of(index: &[u32], text: &[u8], w: Kinds, a: u32, b: u32) -> Found
-    requires { ⌜ Region (now index) (now text) a b ⌝ }
-    ensures { λ r. ⌜ found r ≡ numberOf (lastOf w (partsFrom (now (index .entry)) (now (text .entry)) a b)) ⌝ }
+pub fn last_of(image: &[u8], index: &[u32], w: Kinds, a: u32, b: u32) -> Found
+    requires { ⌜ Region (now image) (now index) a b ⌝ }
+    ensures { λ r. ⌜ found r ≡ numberOf (lastOf w (partsFrom (now (image .entry)) (now (index .entry)) a b)) ⌝ }
 {
     let mut last = Found::Nothing;
     let mut j = a;
@@ -139,13 +139,13 @@ pub fn last_of(index: &[u32], text: &[u8], w: Kinds, a: u32, b: u32) -> Found
 }
 
 // The first `+` of the siblings from a on that begin before b.
-pub fn plus_of(index: &[u32], text: &[u8], a: u32, b: u32) -> Found
-    requires { ⌜ Region (now index) (now text) a b ⌝ }
-    ensures { λ r. ⌜ found r ≡ numberOf (plusOf (partsFrom (now (index .entry)) (now (text .entry)) a b)) ⌝ }
+pub fn plus_of(image: &[u8], index: &[u32], a: u32, b: u32) -> Found
+    requires { ⌜ Region (now image) (now index) a b ⌝ }
+    ensures { λ r. ⌜ found r ≡ numberOf (plusOf (partsFrom (now (image .entry)) (now (index .entry)) a b)) ⌝ }
 {
     let mut j = a;
     while j < b {
-        if is_plus(index, text, j) {
+        if is_plus(image, index, j) {
             return Found::At(Element(j));
         }
         j = end_at(index, j);

@@ -12,7 +12,7 @@ pub const LENGTH: usize = 4;
 
 // The eight bytes of an element.
 pub struct Header {
-    pub kind: u16,
+    pub kind: u32,
     pub level: u16,
     pub size: u32,
 }
@@ -74,7 +74,7 @@ pub fn header_at(s: &[u8], at: usize) -> Header
 {
     let t = behind(s, at);
     Header {
-        kind: u16_at(t, 0),
+        kind: u16_at(t, 0) as u32,
         level: u16_at(t, LEVEL),
         size: u32_at(t, LENGTH),
     }

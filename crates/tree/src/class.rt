@@ -1,4 +1,5 @@
 // Classes of kinds, as accessors and readings look for them.
+use numbers::kind;
 ghost use mathlib.Core.Path.{_≡_};
 ghost use Rattle.tree.specs.Class.{kinds, oneOf};
 
@@ -71,6 +72,13 @@ fn from(lo: u32, hi: u32) -> Kinds
     Kinds { lo, hi, but: 0 }
 }
 
+// One kind.
+fn only(k: u32) -> Kinds
+    ensures { λ r. ⌜ r ≡ record { lo = k; hi = k; but = 0 } ⌝ }
+{
+    from(k, k)
+}
+
 // All kinds from lo to hi, but for one.
 fn without(lo: u32, hi: u32, but: u32) -> Kinds
     ensures { λ r. ⌜ r ≡ record { lo = lo; hi = hi; but = but } ⌝ }
@@ -83,57 +91,64 @@ pub fn kinds_of(c: Class) -> Kinds
     ensures { λ r. ⌜ r ≡ kinds c ⌝ }
 {
     match c {
-        Class::Expr => from(2, 2),
-        Class::ExprBase => from(3, 17),
-        Class::Suffix => from(18, 21),
-        Class::Stmt => from(22, 23),
-        Class::Bind => from(24, 25),
-        Class::ObjBody => from(26, 27),
-        Class::Member => from(28, 31),
-        Class::MemberComp => without(28, 31, 29),
-        Class::CompSpec => from(32, 34),
-        Class::Destruct => from(35, 38),
-        Class::DestructArrayPart => from(39, 40),
-        Class::FieldName => from(41, 42),
-        Class::Name => from(43, 43),
-        Class::SliceDesc => from(44, 44),
-        Class::SliceDescEnd => from(45, 45),
-        Class::SliceDescStep => from(46, 46),
-        Class::ArgsDesc => from(47, 47),
-        Class::Arg => from(48, 48),
-        Class::ParamsDesc => from(49, 49),
-        Class::Param => from(50, 50),
-        Class::ObjLocal => from(51, 51),
-        Class::Assertion => from(52, 52),
-        Class::TrueExpr => from(53, 53),
-        Class::FalseExpr => from(54, 54),
-        Class::DestructObjectField => from(55, 55),
-        Class::DestructRest => from(40, 40),
-        Class::Visibility => from(56, 56),
-        Class::Trivia => from(64, 69),
-        Class::CustomError => from(70, 72),
-        Class::SingleLine => from(68, 69),
-        Class::Separator => from(94, 95),
-        Class::Text => from(73, 86),
-        Class::Number => from(87, 87),
-        Class::Literal => from(88, 88),
-        Class::ImportKind => from(89, 89),
-        Class::Ident => from(90, 90),
-        Class::Operator => from(91, 93),
-        Class::BinaryOperator => without(91, 93, 92),
-        Class::UnaryOperator => from(92, 93),
-        Class::Semi => from(95, 95),
-        Class::LParen => from(96, 96),
-        Class::RParen => from(97, 97),
-        Class::LBrack => from(98, 98),
-        Class::RBrack => from(99, 99),
-        Class::LBrace => from(100, 100),
-        Class::RBrace => from(101, 101),
-        Class::Colon => from(102, 102),
-        Class::Question => from(103, 103),
-        Class::Assign => from(104, 104),
-        Class::Local => from(105, 105),
-        Class::Else => from(106, 106),
+        Class::Expr => only(kind::EXPR),
+        Class::ExprBase => from(kind::EXPR_BINARY, kind::EXPR_ERROR),
+        Class::Suffix => from(kind::SUFFIX_INDEX, kind::SUFFIX_APPLY),
+        Class::Stmt => from(kind::STMT_LOCAL, kind::STMT_ASSERT),
+        Class::Bind => from(kind::BIND_DESTRUCT, kind::BIND_FUNCTION),
+        Class::ObjBody => from(kind::OBJ_BODY_COMP, kind::OBJ_BODY_MEMBER_LIST),
+        Class::Member => from(kind::MEMBER_BIND_STMT, kind::MEMBER_FIELD_METHOD),
+        Class::MemberComp => without(
+            kind::MEMBER_BIND_STMT,
+            kind::MEMBER_FIELD_METHOD,
+            kind::MEMBER_ASSERT_STMT,
+        ),
+        Class::CompSpec => from(kind::FOR_SPEC, kind::IF_SPEC),
+        Class::Destruct => from(kind::DESTRUCT_FULL, kind::DESTRUCT_OBJECT),
+        Class::DestructArrayPart => from(kind::DESTRUCT_ARRAY_ELEMENT, kind::DESTRUCT_REST),
+        Class::FieldName => from(kind::FIELD_NAME_FIXED, kind::FIELD_NAME_DYNAMIC),
+        Class::Name => only(kind::NAME),
+        Class::SliceDesc => only(kind::SLICE_DESC),
+        Class::SliceDescEnd => only(kind::SLICE_DESC_END),
+        Class::SliceDescStep => only(kind::SLICE_DESC_STEP),
+        Class::ArgsDesc => only(kind::ARGS_DESC),
+        Class::Arg => only(kind::ARG),
+        Class::ParamsDesc => only(kind::PARAMS_DESC),
+        Class::Param => only(kind::PARAM),
+        Class::ObjLocal => only(kind::OBJ_LOCAL),
+        Class::Assertion => only(kind::ASSERTION),
+        Class::TrueExpr => only(kind::TRUE_EXPR),
+        Class::FalseExpr => only(kind::FALSE_EXPR),
+        Class::DestructObjectField => only(kind::DESTRUCT_OBJECT_FIELD),
+        Class::DestructRest => only(kind::DESTRUCT_REST),
+        Class::Visibility => only(kind::VISIBILITY),
+        Class::Trivia => from(kind::WHITESPACE, kind::SINGLE_LINE_SLASH_COMMENT),
+        Class::CustomError => from(kind::ERROR_MISSING_TOKEN, kind::ERROR_CUSTOM),
+        Class::SingleLine => from(
+            kind::SINGLE_LINE_HASH_COMMENT,
+            kind::SINGLE_LINE_SLASH_COMMENT,
+        ),
+        Class::Separator => from(kind::COMMA, kind::SEMI),
+        Class::Text => from(kind::STRING_DOUBLE, kind::ERROR_STRING_BLOCK_MISSING_INDENT),
+        Class::Number => only(kind::NUMBER),
+        Class::Literal => only(kind::LITERAL),
+        Class::ImportKind => only(kind::IMPORT_KIND),
+        Class::Ident => only(kind::IDENT),
+        Class::Operator => from(kind::BINARY_ONLY, kind::EITHER),
+        Class::BinaryOperator => without(kind::BINARY_ONLY, kind::EITHER, kind::UNARY_ONLY),
+        Class::UnaryOperator => from(kind::UNARY_ONLY, kind::EITHER),
+        Class::Semi => only(kind::SEMI),
+        Class::LParen => only(kind::L_PAREN),
+        Class::RParen => only(kind::R_PAREN),
+        Class::LBrack => only(kind::L_BRACK),
+        Class::RBrack => only(kind::R_BRACK),
+        Class::LBrace => only(kind::L_BRACE),
+        Class::RBrace => only(kind::R_BRACE),
+        Class::Colon => only(kind::COLON),
+        Class::Question => only(kind::QUESTION),
+        Class::Assign => only(kind::ASSIGN),
+        Class::Local => only(kind::LOCAL),
+        Class::Else => only(kind::ELSE),
     }
 }
 

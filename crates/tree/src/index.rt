@@ -52,7 +52,7 @@ pub fn index(image: &[u8], table: &mut [u32])
     while 0 < i {
         i -= 1;
         start -= read::size_of(image, i);
-        let kind = read::kind_of(image, i) as u32;
+        let kind = read::kind_of(image, i);
         let end = find_end(image, table, i);
         put_entry(table, i, kind, end, start);
     }

@@ -8,10 +8,16 @@ mod reader;
 mod refuse;
 
 use numbers::Element;
+use numbers::refusal::Reason;
+use numbers::refusal::Refusal;
+use numbers::refusal::whole;
 pub use read::element_count;
 use refuse::Test;
 ghost use mathlib.Core.Path.{_≡_};
-ghost use Rattle.tree.specs.Answer.{said, answer};
+ghost use mathlib.Core.Bool.{not};
+ghost use Rattle.text.specs.Basic.{present, orElse};
+ghost use Rattle.tree.specs.declared.Tested.the-variants.{Refused};
+ghost use Rattle.tree.specs.Answer.{found, said, answer};
 
 // The element that was looked for.
 pub enum Found {
@@ -19,18 +25,37 @@ pub enum Found {
     Nothing,
 }
 
-// What the tests 1 to 9 say of an image.
+// Whether nothing was found.
+pub fn is_nothing(f: Found) -> bool
+    ensures { λ r. ⌜ r ≡ not (present (found f)) ⌝ }
+{
+    match f {
+        Found::At(_) => false,
+        Found::Nothing => true,
+    }
+}
+
+// The first if there is one, else the second.
+pub fn or_else(first: Found, second: Found) -> Found
+    ensures { λ r. ⌜ found r ≡ orElse (found first) (found second) ⌝ }
+{
+    match first {
+        Found::At(_) => first,
+        Found::Nothing => second,
+    }
+}
+
+// What the tests 1 to 9 say of an image: why it is turned away, or how many elements and bytes of text it has.
 pub enum Tested {
-    WrongLength,
-    OutOfLimits,
-    UnknownKind(Element),
-    Misplaced(Element),
-    WrongSize(Element),
-    NotUtf8(Element),
-    StringBlock(Element),
-    Misformed(Element),
-    Nameless(Element),
+    Refused(Refusal),
     Accepted { elements: u32, bytes: u32 },
+}
+
+// A refusal for a reason that names an element.
+fn refused(reason: Reason, element: Element) -> Tested
+    ensures { λ r. ⌜ r ≡ Refused (record { reason = reason; element = element }) ⌝ }
+{
+    Tested::Refused(Refusal { reason, element })
 }
 
 // The tests 1 to 9, each over the whole image before the next.
@@ -38,38 +63,38 @@ pub fn refusal(image: &[u8]) -> Tested
     ensures { λ r. ⌜ said r ≡ answer (now (image .entry)) ⌝ }
 {
     if refuse::wrong_length(image) {
-        return Tested::WrongLength;
+        return Tested::Refused(whole(Reason::WrongLength));
     }
     if refuse::out_of_limits(image) {
-        return Tested::OutOfLimits;
+        return Tested::Refused(whole(Reason::OutOfLimits));
     }
     let unknown = refuse::first_where(image, Test::UnknownKind);
     if let Found::At(e) = unknown {
-        return Tested::UnknownKind(e);
+        return refused(Reason::UnknownKind, e);
     }
     let misplaced = refuse::first_misplaced(image);
     if let Found::At(e) = misplaced {
-        return Tested::Misplaced(e);
+        return refused(Reason::Misplaced, e);
     }
     let size = refuse::wrong_sizes(image);
     if let Found::At(e) = size {
-        return Tested::WrongSize(e);
+        return refused(Reason::WrongSize, e);
     }
     let encoded = refuse::first_where(image, Test::NotUtf8);
     if let Found::At(e) = encoded {
-        return Tested::NotUtf8(e);
+        return refused(Reason::NotUtf8, e);
     }
     let block = refuse::first_where(image, Test::StringBlock);
     if let Found::At(e) = block {
-        return Tested::StringBlock(e);
+        return refused(Reason::StringBlock, e);
     }
     let comment = refuse::first_where(image, Test::Misformed);
     if let Found::At(e) = comment {
-        return Tested::Misformed(e);
+        return refused(Reason::Misformed, e);
     }
     let name = refuse::first_nameless(image);
     if let Found::At(e) = name {
-        return Tested::Nameless(e);
+        return refused(Reason::Nameless, e);
     }
     Tested::Accepted {
         elements: read::element_count(image),

@@ -43,10 +43,10 @@ pub fn element_of(image: &[u8], i: u32) -> Header
     reader::element_from(image, place_of(i))
 }
 
-pub fn kind_of(image: &[u8], i: u32) -> u16
+pub fn kind_of(image: &[u8], i: u32) -> u32
     ensures { λ r. ⌜ r ≡ kindIn (now (image .entry)) i ⌝ }
 {
-    reader::short_from(image, place_of(i))
+    reader::short_from(image, place_of(i)) as u32
 }
 
 pub fn level_of(image: &[u8], i: u32) -> u16

@@ -4,6 +4,7 @@ use super::read;
 use super::read::COUNT;
 use super::reader;
 use numbers::Element;
+use numbers::kind;
 ghost use mathlib.Core.Path.{_≡_};
 ghost use mathlib.Core.Bool.{not, _&&_, _||_};
 ghost use Prim.Native.Nat.{_+_, _<_, suc};
@@ -22,28 +23,6 @@ const MAX_ELEMENTS: u32 = 4096;
 const MAX_BYTES: u32 = 32000;
 
 const MAX_LEVEL: u32 = 200;
-// The kinds of nodes and of tokens, and single ones.
-const FIRST_NODE: u16 = 1;
-
-const LAST_NODE: u16 = 56;
-
-const FIRST_TOKEN: u16 = 64;
-
-const LAST_TOKEN: u16 = 107;
-
-const SOURCE_FILE: u16 = 1;
-
-const NAME: u16 = 43;
-
-const MULTI_LINE_COMMENT: u16 = 65;
-
-const HASH_COMMENT: u16 = 68;
-
-const SLASH_COMMENT: u16 = 69;
-
-const STRING_BLOCK: u16 = 82;
-
-const IDENT: u16 = 90;
 
 // A test that looks at one element: for one of an unknown kind (3), a node with a length (5), a token whose text is not valid
 // UTF-8 (6), a string block (7), a misformed comment (8).
@@ -80,7 +59,8 @@ fn unknown_kind_at(image: &[u8], i: u32) -> bool
     ensures { λ r. ⌜ r ≡ unknownKind (elementIn (now (image .entry)) i) ⌝ }
 {
     let k = read::kind_of(image, i);
-    !(((FIRST_NODE <= k) & (k <= LAST_NODE)) | ((FIRST_TOKEN <= k) & (k <= LAST_TOKEN)))
+    !(((kind::FIRST_NODE <= k) & (k <= kind::LAST_NODE))
+        | ((kind::FIRST_TOKEN <= k) & (k <= kind::LAST_TOKEN)))
 }
 
 // Element i, behind the element before, is where no element may be.
@@ -91,10 +71,10 @@ fn misplaced_at(image: &[u8], before: u32, i: u32) -> bool
     let prior = read::element_of(image, before);
     let level = e.level as u32;
     let above = prior.level as u32;
-    (e.kind == SOURCE_FILE)
+    (e.kind == kind::SOURCE_FILE)
         | ((level == 0)
             | ((MAX_LEVEL < level)
-                | ((above + 1 < level) | ((FIRST_TOKEN <= prior.kind) & (above < level)))))
+                | ((above + 1 < level) | ((kind::FIRST_TOKEN <= prior.kind) & (above < level)))))
 }
 
 // The first element is not a SourceFile at level 0.
@@ -102,7 +82,7 @@ fn starts_wrong(image: &[u8]) -> bool
     ensures { λ r. ⌜ r ≡ not (eqb (kindIn (now (image .entry)) 0) 1 && eqb (levelIn (now (image .entry)) 0) 0) ⌝ }
 {
     let e = read::element_of(image, 0);
-    !((e.kind == SOURCE_FILE) & (e.level == 0))
+    !((e.kind == kind::SOURCE_FILE) & (e.level == 0))
 }
 
 // 4: the first element that is where it may not be.
@@ -131,7 +111,7 @@ fn node_with_text_at(image: &[u8], i: u32) -> bool
     ensures { λ r. ⌜ r ≡ nodeWithText (elementIn (now (image .entry)) i) ⌝ }
 {
     let e = read::element_of(image, i);
-    !(FIRST_TOKEN <= e.kind) & (e.size != 0)
+    !(kind::FIRST_TOKEN <= e.kind) & (e.size != 0)
 }
 
 // Element i is a token whose text is not valid UTF-8.
@@ -139,7 +119,7 @@ fn not_utf8_at(image: &[u8], i: u32, at: usize) -> bool
     requires { ⌜ at ≡ startIn (now image) i ⌝ }
     ensures { λ r. ⌜ r ≡ notUtf8 (elementIn (now (image .entry)) i) ⌝ }
 {
-    if read::kind_of(image, i) < FIRST_TOKEN {
+    if read::kind_of(image, i) < kind::FIRST_TOKEN {
         return false;
     }
     !text::is_utf8(read::text_of(image, i, at))
@@ -149,7 +129,7 @@ fn not_utf8_at(image: &[u8], i: u32, at: usize) -> bool
 fn string_block_at(image: &[u8], i: u32) -> bool
     ensures { λ r. ⌜ r ≡ stringBlock (elementIn (now (image .entry)) i) ⌝ }
 {
-    read::kind_of(image, i) == STRING_BLOCK
+    read::kind_of(image, i) == kind::STRING_BLOCK
 }
 
 // A multi-line comment is shorter than 4 bytes or lacks its opening or its end.
@@ -166,15 +146,15 @@ fn misformed_at(image: &[u8], i: u32, at: usize) -> bool
     requires { ⌜ at ≡ startIn (now image) i ⌝ }
     ensures { λ r. ⌜ r ≡ misformed (elementIn (now (image .entry)) i) ⌝ }
 {
-    let kind = read::kind_of(image, i);
+    let k = read::kind_of(image, i);
     let s = read::text_of(image, i, at);
-    if kind == HASH_COMMENT {
+    if k == kind::SINGLE_LINE_HASH_COMMENT {
         return !text::starts_with(s, b"#");
     }
-    if kind == SLASH_COMMENT {
+    if k == kind::SINGLE_LINE_SLASH_COMMENT {
         return !text::starts_with(s, b"//");
     }
-    if kind == MULTI_LINE_COMMENT {
+    if k == kind::MULTI_LINE_COMMENT {
         return misformed_multi_line(s);
     }
     false
@@ -244,7 +224,7 @@ pub fn wrong_sizes(image: &[u8]) -> Found
 fn ident_under(image: &[u8], name: u16, i: u32) -> bool
     ensures { λ r. ⌜ r ≡ (eqb (levelIn (now (image .entry)) i) (name + 1) && eqb (kindIn (now (image .entry)) i) 90) ⌝ }
 {
-    (read::level_of(image, i) as u32 == name as u32 + 1) & (read::kind_of(image, i) == IDENT)
+    (read::level_of(image, i) as u32 == name as u32 + 1) & (read::kind_of(image, i) == kind::IDENT)
 }
 
 // No direct child of element i is an identifier. Walks the subtree of i at most: the walks for all Names take no
@@ -273,7 +253,7 @@ fn nameless_at(image: &[u8], i: u32) -> bool
     requires { ⌜ i < countN (now image) ⌝ }
     ensures { λ r. ⌜ r ≡ (eqb (kindIn (now (image .entry)) i) 43 && noIdent (suc (levelIn (now (image .entry)) i)) (drop (i + 1) (elementsOf (now (image .entry))))) ⌝ }
 {
-    if read::kind_of(image, i) != NAME {
+    if read::kind_of(image, i) != kind::NAME {
         return false;
     }
     lacks_ident(image, i)

@@ -78,36 +78,45 @@ refusal-spec =
     tie.close
     (tie.spec
     (λ c κs. search needs)  -- wrong-length-requires
-    (λ c. if-so 1 (left-all _) (c .before .wrong-length .ensures) (c .if1 .taken))  -- returns
+    (λ c κs. search needs)  -- whole-requires
+    (λ c. rw (c .whole .ensures) (if-so 1 (left-all _) (c .before .before .wrong-length .ensures) (c .before .if1 .taken)))  -- returns
     (λ c κs. search needs)  -- out-of-limits-requires
-    (λ c. if-so 2 (left-1 (c .before .before)) (c .before .out-of-limits .ensures) (c .if2 .taken))  -- returns-2
+    (λ c κs. search needs)  -- whole-requires-2
+    (λ c. rw (c .whole2 .ensures) (if-so 2 (left-1 (c .before .before .before)) (c .before .before .out-of-limits .ensures) (c .before .if2 .taken)))  -- returns-2
     (λ c κs. search needs)  -- first-where-requires
     (λ c. search needs)  -- enum-known-unknown
-    (λ c. at-one 3 (left-2 (c .before .before .before .before)) (c .before .before .before .first-where .ensures) _ (c .before .unknown .given .1))  -- returns-3
+    (λ c κs. search needs)  -- refused-requires
+    (λ c. rw (c .refused .ensures) (at-one 3 (left-2 (c .before .before .before .before .before)) (c .before .before .before .before .first-where .ensures) _ (c .before .before .unknown .given .1)))  -- returns-3
     (λ c. search needs)  -- enum-told
     (λ c κs. search needs)  -- first-misplaced-requires
     (λ c. search needs)  -- enum-known-misplaced
-    (λ c. at-one 4 (left-3 (c .before .before .before .before)) (c .before .before .before .first-misplaced .ensures) _ (c .before .misplaced .given .1))  -- returns-4
+    (λ c κs. search needs)  -- refused-requires-2
+    (λ c. rw (c .refused2 .ensures) (at-one 4 (left-3 (c .before .before .before .before .before)) (c .before .before .before .before .first-misplaced .ensures) _ (c .before .before .misplaced .given .1)))  -- returns-4
     (λ c. search needs)  -- enum-told-2
     (λ c κs. search needs)  -- wrong-sizes-requires
     (λ c. search needs)  -- enum-known-size
-    (λ c. at-one 5 (left-4 (c .before .before .before .before)) (c .before .before .before .wrong-sizes .ensures) _ (c .before .size .given .1))  -- returns-5
+    (λ c κs. search needs)  -- refused-requires-3
+    (λ c. rw (c .refused3 .ensures) (at-one 5 (left-4 (c .before .before .before .before .before)) (c .before .before .before .before .wrong-sizes .ensures) _ (c .before .before .size .given .1)))  -- returns-5
     (λ c. search needs)  -- enum-told-3
     (λ c κs. search needs)  -- first-where-requires-2
     (λ c. search needs)  -- enum-known-encoded
-    (λ c. at-one 6 (left-5 (c .before .before .before .before)) (c .before .before .before .first-where2 .ensures) _ (c .before .encoded .given .1))  -- returns-6
+    (λ c κs. search needs)  -- refused-requires-4
+    (λ c. rw (c .refused4 .ensures) (at-one 6 (left-5 (c .before .before .before .before .before)) (c .before .before .before .before .first-where2 .ensures) _ (c .before .before .encoded .given .1)))  -- returns-6
     (λ c. search needs)  -- enum-told-4
     (λ c κs. search needs)  -- first-where-requires-3
     (λ c. search needs)  -- enum-known-block
-    (λ c. at-one 7 (left-6 (c .before .before .before .before)) (c .before .before .before .first-where3 .ensures) _ (c .before .block .given .1))  -- returns-7
+    (λ c κs. search needs)  -- refused-requires-5
+    (λ c. rw (c .refused5 .ensures) (at-one 7 (left-6 (c .before .before .before .before .before)) (c .before .before .before .before .first-where3 .ensures) _ (c .before .before .block .given .1)))  -- returns-7
     (λ c. search needs)  -- enum-told-5
     (λ c κs. search needs)  -- first-where-requires-4
     (λ c. search needs)  -- enum-known-comment
-    (λ c. at-one 8 (left-7 (c .before .before .before .before)) (c .before .before .before .first-where4 .ensures) _ (c .before .comment .given .1))  -- returns-8
+    (λ c κs. search needs)  -- refused-requires-6
+    (λ c. rw (c .refused6 .ensures) (at-one 8 (left-7 (c .before .before .before .before .before)) (c .before .before .before .before .first-where4 .ensures) _ (c .before .before .comment .given .1)))  -- returns-8
     (λ c. search needs)  -- enum-told-6
     (λ c κs. search needs)  -- first-nameless-requires
     (λ c. search needs)  -- enum-known-name
-    (λ c. at-one 9 (left-8 (c .before .before .before .before)) (c .before .before .before .first-nameless .ensures) _ (c .before .name .given .1))  -- returns-9
+    (λ c κs. search needs)  -- refused-requires-7
+    (λ c. rw (c .refused7 .ensures) (at-one 9 (left-8 (c .before .before .before .before .before)) (c .before .before .before .before .first-nameless .ensures) _ (c .before .before .name .given .1)))  -- returns-9
     (λ c. search needs)  -- enum-told-7
     (λ c κs. search needs)  -- element-count-requires
     (λ c κs. search needs)  -- byte-count-requires

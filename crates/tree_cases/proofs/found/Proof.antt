@@ -8,7 +8,7 @@ use Rattle.tree_cases.proofs.found.Statement.{statement}
 use Rattle.tree_cases.proofs.found.Tie as tie
 
 -- the children of the node
-region : (c : tie.After-wanted) → Region (c .before .before .before .before .before .before .before .before .args .table .now) (c .before .before .before .before .before .before .before .before .args .image .now) (c .before .before .before .before .node-of .result + 1) (c .before .end-at .result)
+region : (c : tie.After-wanted) → Region (c .before .before .before .before .before .before .before .before .args .image .now) (c .before .before .before .before .before .before .before .before .args .table .now) (c .before .before .before .before .node-of .result + 1) (c .before .end-at .result)
 region c = region-of (c .before .before .before .before .before .before .before .before .pre) _ (omega (arith, c .before .before .if1 .left, c .before .before .before .element-count .ensures)) refl (c .before .end-at .ensures)
 
 pub found-spec : {M : Type 1} → statement M

@@ -5,10 +5,10 @@ use Rattle.children.proofs.around.foreign_of.Statement.{statement}
 use Rattle.children.proofs.around.foreign_of.Tie as tie
 
 abbrev Inv-loop : tie.InvT-loop
-Inv-loop index text a b j₀ j = Seeking index text a b j
+Inv-loop image index a b j₀ j = Seeking index image a b j
 
 abbrev μ-loop : tie.MeasureT-loop
-μ-loop index text a b j₀ j = b - j
+μ-loop image index a b j₀ j = b - j
 
 pub foreign-of-spec : {M : Type 1} → statement M
 foreign-of-spec =

@@ -7,10 +7,10 @@ use Rattle.children.proofs.around.leading_end.Statement.{statement}
 use Rattle.children.proofs.around.leading_end.Tie as tie
 
 abbrev Inv-loop : tie.InvT-loop
-Inv-loop index text a b w j₀ j = (Heading index text a b j) × (w ≡ notes)
+Inv-loop image index a b w j₀ j = (Heading index image a b j) × (w ≡ notes)
 
 abbrev μ-loop : tie.MeasureT-loop
-μ-loop index text a b w j₀ j = b - j
+μ-loop image index a b w j₀ j = b - j
 
 pub leading-end-spec : {M : Type 1} → statement M
 leading-end-spec =

@@ -5,10 +5,10 @@ use Rattle.children.proofs.gap.gap.Statement.{statement}
 use Rattle.children.proofs.gap.gap.Tie as tie
 
 abbrev Inv-loop : tie.InvT-loop
-Inv-loop index text w loose after from b started₀ had₀ cut₀ j₀ started had cut j = Spanning index text w loose after from b cut j started had
+Inv-loop image index w loose after from b started₀ had₀ cut₀ j₀ started had cut j = Spanning index image w loose after from b cut j started had
 
 abbrev μ-loop : tie.MeasureT-loop
-μ-loop index text w loose after from b started₀ had₀ cut₀ j₀ started had cut j = b - j
+μ-loop image index w loose after from b started₀ had₀ cut₀ j₀ started had cut j = b - j
 
 pub gap-spec : {M : Type 1} → statement M
 gap-spec =

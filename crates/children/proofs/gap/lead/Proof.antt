@@ -5,10 +5,10 @@ use Rattle.children.proofs.gap.lead.Statement.{statement}
 use Rattle.children.proofs.gap.lead.Tie as tie
 
 abbrev Inv-loop : tie.InvT-loop
-Inv-loop index text w loose from b j₀ j = Leading index text w loose from b j
+Inv-loop image index w loose from b j₀ j = Leading index image w loose from b j
 
 abbrev μ-loop : tie.MeasureT-loop
-μ-loop index text w loose from b j₀ j = b - j
+μ-loop image index w loose from b j₀ j = b - j
 
 pub lead-spec : {M : Type 1} → statement M
 lead-spec =

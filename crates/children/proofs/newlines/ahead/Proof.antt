@@ -7,10 +7,10 @@ use Rattle.children.proofs.newlines.ahead.Statement.{statement}
 use Rattle.children.proofs.newlines.ahead.Tie as tie
 
 abbrev Inv-loop : tie.InvT-loop
-Inv-loop index text a b n₀ j₀ n j = Aheading index text a b n j
+Inv-loop image index a b n₀ j₀ n j = Aheading index image a b n j
 
 abbrev μ-loop : tie.MeasureT-loop
-μ-loop index text a b n₀ j₀ n j = b - j
+μ-loop image index a b n₀ j₀ n j = b - j
 
 pub ahead-spec : {M : Type 1} → statement M
 ahead-spec =

@@ -6,10 +6,10 @@ use Rattle.children.proofs.newlines.back.Statement.{statement}
 use Rattle.children.proofs.newlines.back.Tie as tie
 
 abbrev Inv-loop : tie.InvT-loop
-Inv-loop index text a b n₀ j₀ n j = Backing index text a b n j
+Inv-loop image index a b n₀ j₀ n j = Backing index image a b n j
 
 abbrev μ-loop : tie.MeasureT-loop
-μ-loop index text a b n₀ j₀ n j = b - j
+μ-loop image index a b n₀ j₀ n j = b - j
 
 pub back-spec : {M : Type 1} → statement M
 back-spec =

@@ -7,10 +7,10 @@ use Rattle.children.proofs.print.print_all.Statement.{statement}
 use Rattle.children.proofs.print.print_all.Tie as tie
 
 abbrev Inv-loop : tie.InvT-loop
-Inv-loop records₀ texts₀ index text w a b loc q₀ j₀ records texts q j = Printing index text w a b (place loc) (held records₀ texts₀ q₀) (held records texts q) j
+Inv-loop records₀ texts₀ image index w a b loc q₀ j₀ records texts q j = Printing index image w a b (place loc) (held records₀ texts₀ q₀) (held records texts q) j
 
 abbrev μ-loop : tie.MeasureT-loop
-μ-loop records₀ texts₀ index text w a b loc q₀ j₀ records texts q j = b - j
+μ-loop records₀ texts₀ image index w a b loc q₀ j₀ records texts q j = b - j
 
 pub print-all-spec : {M : Type 1} → statement M
 print-all-spec =

@@ -6,10 +6,10 @@ use Rattle.children.proofs.survey.survey_from.Statement.{statement}
 use Rattle.children.proofs.survey.survey_from.Tie as tie
 
 abbrev Inv-loop : tie.InvT-loop
-Inv-loop index text w loose before wide b s₀ children₀ many₀ n₀ s children many n = Outlining index text w loose b s₀ before wide s children many n
+Inv-loop image index w loose before wide b s₀ children₀ many₀ n₀ s children many n = Outlining index image w loose b s₀ before wide s children many n
 
 abbrev μ-loop : tie.MeasureT-loop
-μ-loop index text w loose before wide b s₀ children₀ many₀ n₀ s children many n = b - s .to
+μ-loop image index w loose before wide b s₀ children₀ many₀ n₀ s children many n = b - s .to
 
 pub survey-from-spec : {M : Type 1} → statement M
 survey-from-spec =

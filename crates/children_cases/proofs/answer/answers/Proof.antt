@@ -7,7 +7,7 @@ use Rattle.children_cases.proofs.answer.answers.Statement.{statement}
 use Rattle.children_cases.proofs.answer.answers.Tie as tie
 
 -- the children of the first element
-region : (c : tie.After-end-at) → Region (c .before .before .before .before .before .args .table .now) (c .before .before .before .before .before .args .image .now) 1 (c .end-at .result)
+region : (c : tie.After-end-at) → Region (c .before .before .before .before .before .args .image .now) (c .before .before .before .before .before .args .table .now) 1 (c .end-at .result)
 region c = region-of (c .before .before .before .before .before .pre) 0 (omega (arith, c .before .if1 .left, c .before .before .element-count .ensures)) refl (c .end-at .ensures)
 
 pub answers-spec : {M : Type 1} → statement M

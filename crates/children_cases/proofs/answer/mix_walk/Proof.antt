@@ -6,7 +6,7 @@ use Rattle.children_cases.proofs.answer.mix_walk.Statement.{statement}
 use Rattle.children_cases.proofs.answer.mix_walk.Tie as tie
 
 abbrev Inv-loop : tie.InvT-loop
-Inv-loop table text w loose b h s₀ n₀ s n = Surveying table text b s 0
+Inv-loop table text w loose b h s₀ n₀ s n = Surveying text table b s 0
 
 abbrev μ-loop : tie.MeasureT-loop
 μ-loop table text w loose b h s₀ n₀ s n = b - s .to

@@ -9,10 +9,10 @@ use Rattle.tree.proofs.access.last_of.Statement.{statement}
 use Rattle.tree.proofs.access.last_of.Tie as tie
 
 abbrev Inv-loop : tie.InvT-loop
-Inv-loop index text w a b last₀ j₀ last j = Looking index text b (λ xs. orElse (numberOf (lastOf w xs)) (found last)) (numberOf (lastOf w (partsFrom index text a b))) j
+Inv-loop image index w a b last₀ j₀ last j = Looking index image b (λ xs. orElse (numberOf (lastOf w xs)) (found last)) (numberOf (lastOf w (partsFrom image index a b))) j
 
 abbrev μ-loop : tie.MeasureT-loop
-μ-loop index text w a b last₀ j₀ last j = b - j
+μ-loop image index w a b last₀ j₀ last j = b - j
 
 pub last-of-spec : {M : Type 1} → statement M
 last-of-spec =

@@ -9,10 +9,10 @@ use Rattle.tree.proofs.access.nth_of.Statement.{statement}
 use Rattle.tree.proofs.access.nth_of.Tie as tie
 
 abbrev Inv-loop : tie.InvT-loop
-Inv-loop index text w n a b left₀ j₀ left j = Looking index text b (λ xs. numberOf (nthOf w left xs)) (numberOf (nthOf w n (partsFrom index text a b))) j
+Inv-loop image index w n a b left₀ j₀ left j = Looking index image b (λ xs. numberOf (nthOf w left xs)) (numberOf (nthOf w n (partsFrom image index a b))) j
 
 abbrev μ-loop : tie.MeasureT-loop
-μ-loop index text w n a b left₀ j₀ left j = b - j
+μ-loop image index w n a b left₀ j₀ left j = b - j
 
 pub nth-of-spec : {M : Type 1} → statement M
 nth-of-spec =

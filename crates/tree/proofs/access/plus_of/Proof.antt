@@ -9,10 +9,10 @@ use Rattle.tree.proofs.access.plus_of.Statement.{statement}
 use Rattle.tree.proofs.access.plus_of.Tie as tie
 
 abbrev Inv-loop : tie.InvT-loop
-Inv-loop index text a b j₀ j = Looking index text b (λ xs. numberOf (plusOf xs)) (numberOf (plusOf (partsFrom index text a b))) j
+Inv-loop image index a b j₀ j = Looking index image b (λ xs. numberOf (plusOf xs)) (numberOf (plusOf (partsFrom image index a b))) j
 
 abbrev μ-loop : tie.MeasureT-loop
-μ-loop index text a b j₀ j = b - j
+μ-loop image index a b j₀ j = b - j
 
 pub plus-of-spec : {M : Type 1} → statement M
 plus-of-spec =

@@ -14,7 +14,7 @@ text-at-spec =
     (λ c κs. search needs)  -- start-at-requires-2
     (λ c. search needs)  -- cast-behind
     (λ c κs. search needs)  -- behind-requires
-    (λ c κs. search needs)  -- gap-requires
+    (λ c κs. search needs)  -- distance-requires
     (λ c κs. search needs)  -- front-requires
-    (λ c. text-as _ _ _ (c .before .before .before .before .before .start-at .ensures) (c .before .before .before .before .end-at .ensures) (c .before .before .before .start-at2 .ensures) (c .before .gap .ensures) (c .before .before .behind .ensures) (c .front .ensures))  -- returns
+    (λ c. text-as _ _ _ (c .before .before .before .before .before .start-at .ensures) (c .before .before .before .before .end-at .ensures) (c .before .before .before .start-at2 .ensures) (c .before .distance .ensures) (c .before .before .behind .ensures) (c .front .ensures))  -- returns
     )

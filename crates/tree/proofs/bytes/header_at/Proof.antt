@@ -9,6 +9,7 @@ header-at-spec =
     (tie.spec
     (λ c κs. search needs)  -- behind-requires
     (λ c κs. search needs)  -- u16-at-requires
+    (λ c. search needs)  -- cast-result
     (λ c κs. search needs)  -- u16-at-requires-2
     (λ c κs. search needs)  -- u32-at-requires
     (λ c. header-as _ _ (c .before .before .before .behind .ensures) (c .before .before .u16-at .ensures) (c .before .u16-at2 .ensures) (c .u32-at .ensures))  -- returns

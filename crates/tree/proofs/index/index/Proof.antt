@@ -29,7 +29,6 @@ index-spec =
     (λ c κs. search needs)  -- size-of-requires
     (λ c. omega (arith, filling-start (c .before .before .loop .inv) (c .before .loop-test .taken), c .size-of .ensures))  -- sub-start
     (λ c κs. search needs)  -- kind-of-requires
-    (λ c. search needs)  -- cast-kind
     (λ c κs. let l = c .before .before .before .before in (omega (arith, c .before .before .before .loop-test .taken, l .loop .inv .upto), filling-behind (l .loop .inv) (c .before .before .before .loop-test .taken)))  -- find-end-requires
     (λ c κs. omega (arith, c .before .before .before .before .before .loop-test .taken, c .before .before .before .before .before .before .loop .inv .upto, c .before .before .before .before .before .before .loop .inv .done .room))  -- put-entry-requires-2
     (λ c. omega (arith, c .before .before .before .before .before .before .before .before .loop-test .taken))  -- loop-less

@@ -10,5 +10,6 @@ kind-of-spec =
     (tie.spec
     (λ c κs. search needs)  -- place-of-requires
     (λ c κs. search needs)  -- short-from-requires
+    (λ c. search needs)  -- cast-result
     (λ c. rw (c .before .place-of .ensures) at (c .short-from .ensures))  -- returns
     )
