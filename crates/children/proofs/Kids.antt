@@ -11,7 +11,7 @@ use Rattle.tree.proofs.Children.{child-first, child-next, end-at}
 use Rattle.children.specs.Stretch.{Jumps, here, jump, Stretch}
 use Rattle.children.proofs.Stretch.{jumps-le}
 
-module _ {image index image : List ℕ} {n : ℕ} (x : Indexed image index) (t : Table image index n) where
+module _ {image index : List ℕ} {n : ℕ} (x : Indexed image index) (t : Table image index n) where
   -- no table of a tree's index goes past the tree: the last entry ends at itself
   few : n ≤ countN image
   few = go (decLt (countN image) n)
@@ -32,5 +32,5 @@ module _ {image index image : List ℕ} {n : ℕ} (x : Indexed image index) (t :
   jumped i j h k l = onward (child-first (accepted image (x .passed)) i h) k (rw (end-at x i h) at l)
 
 -- the same by a stretch
-pub stretched : {image index image : List ℕ} (x : Indexed image index) (i j : ℕ) → i < countN image → Stretch image index (i + 1) j → j ≤ endAt index i → Child image i j
+pub stretched : {image index : List ℕ} (x : Indexed image index) (i j : ℕ) → i < countN image → Stretch image index (i + 1) j → j ≤ endAt index i → Child image i j
 stretched x i j h s l = jumped x (s .table) i j h (s .jumps) l

@@ -2,6 +2,7 @@
 use super::gap::Span;
 use super::turn::line_feeds_of;
 use super::turn::of_class;
+use numbers::kind::WHITESPACE;
 use tree::access::end_at;
 use tree::access::kind_at;
 use tree::class::Class;
@@ -13,9 +14,6 @@ ghost use Rattle.children.specs.Gaps.{spaceIn, errorIn, stops, newlinesA
 ghost use Rattle.children.specs.Reading.{newlinesBefore};
 ghost use Rattle.children.specs.Stretch.{Stretch};
 ghost use Rattle.children.specs.Spans.{Lies, gapAt, Errors, Back, Ahead};
-
-// `TriviaKind::Whitespace`.
-const WHITESPACE: u32 = 64;
 
 // The line feeds of element j, if it is whitespace.
 fn space_of(image: &[u8], index: &[u32], j: u32) -> usize

@@ -57,15 +57,15 @@ fn survey_from(
     loose: bool,
     first: Span,
     before: u32,
-    wide: bool,
+    already: bool,
     b: u32,
 ) -> Outline
     requires { ⌜ Surveying (now image) (now index) b first before ⌝ }
-    ensures { λ r. ⌜ SurveyedFrom (now (image .entry)) (now (index .entry)) w loose b first before wide r ⌝ }
+    ensures { λ r. ⌜ SurveyedFrom (now (image .entry)) (now (index .entry)) w loose b first before already r ⌝ }
 {
     let mut s = first;
     let mut children = before;
-    let mut many = wide;
+    let mut many = already;
     let mut n = newlines_at(image, index, s);
     while s.end == AT_CHILD {
         many = many | (n >= 1);

@@ -1,4 +1,5 @@
 // What one element does to a gap.
+use numbers::kind;
 use tree::access::kind_at;
 use tree::access::text_at;
 use tree::class::Class;
@@ -51,8 +52,8 @@ pub fn note_kinds() -> Kinds
     ensures { λ r. ⌜ r ≡ notes ⌝ }
 {
     Kinds {
-        lo: 64,
-        hi: 72,
+        lo: kind::WHITESPACE,
+        hi: kind::ERROR_CUSTOM,
         but: 0,
     }
 }
