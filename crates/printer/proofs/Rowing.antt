@@ -29,7 +29,7 @@ use Rattle.printer.specs.declared.rows.Extent.{Extent}
 use Rattle.printer.specs.Layout
 use Rattle.printer.specs.Layout.{asked, layout, rows}
 use Rattle.printer.specs.Print.{eachOf, what, row}
-use Rattle.printer.specs.Rows.{words, wordAt, wordOrNone, wantAt, whatOf, pieceOf, pieces, pieceAt, settled, Coded, RowOf}
+use Rattle.printer.specs.Rows.{words, wordAt, wordOrNone, wantAt, whatOf, pieceOf, allPieces, pieceAt, settled, Coded, RowOf, pieceCount, wordCount}
 use Rattle.printer.proofs.Seq.{Goes, goes-none, goes-more, goes-all, seq-assoc, none-first, none-last}
 use Rattle.printer.specs.Under.{At, Kid, under, partsOf, printOf}
 use Rattle.printer.specs.Reads.{numberOr, partFor, Has}
@@ -40,11 +40,11 @@ use Rattle.printer.proofs.Readings.{part-number, behind-kid}
 
 -- The pieces from n on are still to be printed, of the row of element i.
 pub record Rowing (image index : List ℕ) (i end : ℕ) (o a : Held) (n : ℕ) : Type 0 where
-  pub few : end ≤ 145
-  pub goes : Goes (row (under image i) (partsOf image index i) (layout (kindAt index i))) (row (under image i) (partsOf image index i) (take (end - n) (drop n pieces))) o a
+  pub few : end ≤ pieceCount
+  pub goes : Goes (row (under image i) (partsOf image index i) (layout (kindAt index i))) (row (under image i) (partsOf image index i) (take (end - n) (drop n allPieces))) o a
 
-pieces-count : length pieces ≡ 145
-unfolding pieces rows flatten
+pieces-count : length allPieces ≡ pieceCount
+unfolding allPieces rows flatten
 pieces-count = refl
 
 module _ {image index : List ℕ} {i : ℕ} {o : Held} where
@@ -59,11 +59,11 @@ module _ {image index : List ℕ} {i : ℕ} {o : Held} where
       let s : m ≡ suc n = omega arith in
       record {
         few = r .few;
-        goes = rw s (goes-more (r .goes) (rw (q, drop-cons pieces n (Layout.t "") (omega (arith, pieces-count, r .few)))) p);
+        goes = rw s (goes-more (r .goes) (rw (q, drop-cons allPieces n (Layout.t "") (omega (arith, pieces-count, r .few)))) p);
       }
 
   -- the next piece is one of the table
-  pub rowing-in : {end n : ℕ} {a : Held} → Rowing image index i end o a n → n < end → n < 145
+  pub rowing-in : {end n : ℕ} {a : Held} → Rowing image index i end o a n → n < end → n < pieceCount
   rowing-in r h = omega (arith, r .few)
 
   pub rowing-all : {end n : ℕ} {a : Held} → Rowing image index i end o a n → end ≤ n → Prints (row (under image i) (partsOf image index i) (layout (kindAt index i))) o a
@@ -175,12 +175,12 @@ module _ (pr : ℕ → Print) (c : Class) (s : String) (ended : Bool) where
       go false = rw (none-first (eachOf pr c s ended xs))
 
 -- a text in front: number 0 is none
-front-word : (w : ℕ) → w < 50 → isNil (ascii (wordAt w)) ≡ eqb w 0
+front-word : (w : ℕ) → w < wordCount → isNil (ascii (wordAt w)) ≡ eqb w 0
 unfolding words
-front-word w h = sym (tabled-at true 50 (λ w. isNil (ascii (wordAt w))) w h) ∙ tabled-at true 50 (λ w. eqb w 0) w h
+front-word w h = sym (tabled-at true wordCount (λ w. isNil (ascii (wordAt w))) w h) ∙ tabled-at true wordCount (λ w. eqb w 0) w h
 
 -- a part of the class: the text in front, the part, and what ends it
-pub each-one : {image index : List ℕ} {i j : ℕ} (w : ℕ) (c : Class) (ended : Bool) {o a b d : Held} → w < 50 → Kid image index i j → oneOf (kinds c) (kindAt index j) ≡ true
+pub each-one : {image index : List ℕ} {i j : ℕ} (w : ℕ) (c : Class) (ended : Bool) {o a b d : Held} → w < wordCount → Kid image index i j → oneOf (kinds c) (kindAt index j) ≡ true
     → Prints (wordOrNone w) o a → Prints (printOf image j) a b → Prints (when ended (lit "," ⨟ say newline)) b d
     → Prints (eachOf (under image i) c (wordAt w) ended (partAt image index j ∷ [])) o d
 unfolding eachOf wordOrNone

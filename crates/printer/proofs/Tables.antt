@@ -7,8 +7,10 @@ use native.Mathlib.Omega.{arith}
 use lib.Dec.{leb, ltb}
 use lib.ListN.{length, getD, take, drop}
 use borrow.Author.Tests.{eq-eqb, ne-eqb, leb-true, ltb-true}
-use Rattle.text.specs.Basic.{ascii, sum}
+use Rattle.text.specs.Basic.{sum}
+use Rattle.text.specs.Words.{joinedWords, wordStart}
 use Rattle.text.proofs.Table.{tabled, tabled-at}
+use Rattle.text.proofs.Words as W
 use Rattle.text.proofs.Below.{allBelow, below}
 use Rattle.text.proofs.Lists.{and-true}
 use Rattle.items.specs.Item.{text, none, say, lit}
@@ -19,32 +21,26 @@ use Rattle.printer.specs.declared.rows.Entry.{Entry}
 use Rattle.printer.specs.declared.rows.Extent.{Extent}
 use Rattle.printer.specs.Layout
 use Rattle.printer.specs.Layout.{rows, layout}
-use Rattle.printer.specs.Rows.{words, wordAt, startOf, joined, wordOrNone, wantAt, pieceOf, settled, pieces, EntryIn, Coded, RowOf}
+use Rattle.printer.specs.Rows.{words, wordAt, wordOrNone, wordCount, wantCount, pieceCount, wantAt, pieceOf, settled, allPieces, EntryIn, Coded, RowOf}
 
 -- ---- texts
 
--- the texts lie behind one another
-word-bytes : (w : ℕ) → w < 50 → take (startOf (w + 1) - startOf w) (drop (startOf w) joined) ≡ ascii (wordAt w)
-unfolding words flatten
-word-bytes w h =
-    sym (tabled-at [] 50 (λ w. take (startOf (w + 1) - startOf w) (drop (startOf w) joined)) w h)
-    ∙ tabled-at [] 50 (λ w. ascii (wordAt w)) w h
+-- there are so many
+words-counted : length words ≡ wordCount
+unfolding words
+words-counted = refl
 
--- they start one after another, up to where the last one ends
-start-test : (w : ℕ) → w < 50 → (leb (startOf w) (startOf (w + 1)) && leb (startOf (w + 1)) 506) ≡ true
-unfolding words flatten
-start-test w h = below 50 (λ w. leb (startOf w) (startOf (w + 1)) && leb (startOf (w + 1)) 506) refl w h
+module _ (w : ℕ) {a b : ℕ} (h : w < wordCount) (e : a ≡ wordStart words w) (f : b ≡ wordStart words (w + 1)) where
+  pub start-le : a ≤ b
+  start-le = W.start-le words w (rw words-counted h) e f
 
-pub start-le : (w : ℕ) {a b : ℕ} → w < 50 → a ≡ startOf w → b ≡ startOf (w + 1) → a ≤ b
-start-le w h e f = rw (e, f) (leb-true _ _ (and-true (leb (startOf w) (startOf (w + 1))) _ (start-test w h) .0))
+  pub end-in : b ≤ length (joinedWords words)
+  end-in = W.end-in words w (rw words-counted h) e f
 
-pub start-in : (w : ℕ) {b : ℕ} → w < 50 → b ≡ startOf (w + 1) → b ≤ 506
-start-in w h f = rw f (leb-true _ _ (and-true (leb (startOf w) (startOf (w + 1))) _ (start-test w h) .1))
-
--- what is printed from where a text starts to where the next one starts is the text
-pub word-said : (w : ℕ) {a b : ℕ} {o r : Held} → w < 50 → a ≡ startOf w → b ≡ startOf (w + 1) → Prints (say (text (take (b - a) (drop a joined)))) o r → Prints (lit (wordAt w)) o r
-unfolding lit
-word-said w h e f k = by (ap (λ (s : List ℕ). say (text s)) (sym (word-bytes w h) ∙ rw (e, f))) k
+  -- what is printed from where a text starts to where the next one starts is the text
+  pub word-said : {o r : Held} → Prints (say (text (take (b - a) (drop a (joinedWords words))))) o r → Prints (lit (wordAt w)) o r
+  unfolding lit
+  word-said k = by (ap (λ (s : List ℕ). say (text s)) (W.word-part words w (rw words-counted h) e f)) k
 
 -- number 0 prints nothing
 pub word-none : (w : ℕ) → w ≡ 0 → wordOrNone w ≡ none
@@ -75,26 +71,26 @@ wantMost x = max (x .given) (max (x .other) (max (x .unless) (x .want)))
 
 -- its numbers are in the other tables
 abbrev inTables : Entry → Bool
-inTables x = ltb (wantMost x) 34 && (ltb (x .word) 50 && settled x)
+inTables x = ltb (wantMost x) wantCount && (ltb (x .word) wordCount && settled x)
 
 -- so is each of them
-each-below : (a b c d : ℕ) → max a (max b (max c d)) < 34 → (a < 34) × (b < 34) × (c < 34) × (d < 34)
+each-below : (a b c d : ℕ) → max a (max b (max c d)) < wantCount → (a < wantCount) × (b < wantCount) × (c < wantCount) × (d < wantCount)
 each-below a b c d h = (omega arith, omega arith, omega arith, omega arith)
 
 -- the table's rule: its entries are the pieces of the rows in their order
-pub coded : {ns : List ℕ} {q : ℕ} {x : Entry} → EntryIn ns q x → q < 145 → tabled 145 (λ q. pieceOf (entryIn ns q)) 0 ≡ pieces → allBelow 145 (λ q. inTables (entryIn ns q)) ≡ true → Coded q x
+pub coded : {ns : List ℕ} {q : ℕ} {x : Entry} → EntryIn ns q x → q < pieceCount → tabled pieceCount (λ q. pieceOf (entryIn ns q)) 0 ≡ allPieces → allBelow pieceCount (λ q. inTables (entryIn ns q)) ≡ true → Coded q x
 coded {ns} {q} {x} e h p b =
     let y = entryIn ns q in
-    let (u, r) = and-true (ltb (wantMost y) 34) (ltb (y .word) 50 && settled y) (below 145 (λ q. inTables (entryIn ns q)) b q h) in
-    let (v, g) = and-true (ltb (y .word) 50) (settled y) r in
-    let (i, j, k, l) = each-below (y .given) (y .other) (y .unless) (y .want) (ltb-true (wantMost y) 34 u) in
+    let (u, r) = and-true (ltb (wantMost y) wantCount) (ltb (y .word) wordCount && settled y) (below pieceCount (λ q. inTables (entryIn ns q)) b q h) in
+    let (v, g) = and-true (ltb (y .word) wordCount) (settled y) r in
+    let (i, j, k, l) = each-below (y .given) (y .other) (y .unless) (y .want) (ltb-true (wantMost y) wantCount u) in
     record {
-      piece = rw (e .given, e .other, e .unless, e .what, e .want, e .word) (sym (tabled-at (Layout.t "") 145 (λ q. pieceOf (entryIn ns q)) q h) ∙ ap (λ (l : List Layout.Piece). getD l q (Layout.t "")) p);
+      piece = rw (e .given, e .other, e .unless, e .what, e .want, e .word) (sym (tabled-at (Layout.t "") pieceCount (λ q. pieceOf (entryIn ns q)) q h) ∙ ap (λ (l : List Layout.Piece). getD l q (Layout.t "")) p);
       given = rw (e .given) i;
       other = rw (e .other) j;
       unless = rw (e .unless) k;
       want = rw (e .want) l;
-      word = rw (e .word) (ltb-true (y .word) 50 v);
+      word = rw (e .word) (ltb-true (y .word) wordCount v);
       settles = rw (e .what, e .want, e .word) g;
     }
 
@@ -106,8 +102,8 @@ rowStart k = sum (λ (r : Layout.Row). cond (ltb (r .kind) k) (length (r .pieces
 
 -- from there up to where the next kind's row starts stand the pieces of its row
 pub row-pieces : (k : ℕ) {r : Extent} → k < 64 → r .start ≡ rowStart k → r .end ≡ rowStart (k + 1) → RowOf k r
-unfolding rows Layout.pick pieces flatten sum
+unfolding rows Layout.pick allPieces flatten sum
 row-pieces k {r} h e f = record {
-  pieces-of = rw (e, f) (sym (tabled-at [] 64 (λ k. take (rowStart (k + 1) - rowStart k) (drop (rowStart k) pieces)) k h) ∙ tabled-at [] 64 layout k h);
-  within = rw f (leb-true _ 145 (below 64 (λ k. leb (rowStart (k + 1)) 145) refl k h));
+  pieces-of = rw (e, f) (sym (tabled-at [] 64 (λ k. take (rowStart (k + 1) - rowStart k) (drop (rowStart k) allPieces)) k h) ∙ tabled-at [] 64 layout k h);
+  within = rw f (leb-true _ pieceCount (below 64 (λ k. leb (rowStart (k + 1)) pieceCount) refl k h));
 }

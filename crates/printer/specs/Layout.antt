@@ -22,7 +22,7 @@ pub data What : Type 0 where
   txt : String → What  -- a text of the formatter's own: str(..)
   bare : Signal → What  -- a newline, an indent or an outdent
   part : Want → String → What  -- what the part prints, or the text that says what is missing
-  opt : Class → What  -- what the first part of the class prints, if there is one
+  opt : Class → What  -- what the firstOf part of the class prints, if there is one
   each : Class → String → Bool → What  -- all parts of the class: each behind a text, and in front of a comma and a newline if so asked
   plus : What  -- the + of a field, if there is one
 
@@ -37,12 +37,12 @@ abbrev pub always : What → Piece
 always w = record { given = []; unless = []; what = w }
 
 -- the first part of a class
-abbrev pub first : Class → Want
-first c = record { class = c; place = 0 }
+abbrev pub firstOf : Class → Want
+firstOf c = record { class = c; place = 0 }
 
 -- the second part of a class: `nth(1usize)`
-abbrev pub second : Class → Want
-second c = record { class = c; place = 1 }
+abbrev pub secondOf : Class → Want
+secondOf c = record { class = c; place = 1 }
 
 -- a piece that is printed where one of these is there
 abbrev pub given : List Want → Piece → Piece
@@ -58,7 +58,7 @@ t s = always (txt s)
 
 -- a part, or the text that says that it is missing
 abbrev pub one : Class → String → Piece
-one c s = always (part (first c) s)
+one c s = always (part (firstOf c) s)
 
 -- the first part of a class, if there is one
 abbrev pub maybe : Class → Piece
@@ -81,7 +81,7 @@ abbrev pub expr : Piece
 expr = one Class.Expr "/*missing Expr*/"
 
 abbrev pub secondExpr : Piece
-secondExpr = always (part (second Class.Expr) "/*missing Expr*/")
+secondExpr = always (part (secondOf Class.Expr) "/*missing Expr*/")
 
 abbrev pub name : Piece
 name = one Class.Name "/*missing Name*/"
@@ -129,12 +129,12 @@ rows =
     ∷ (13 ⇒ one Class.ImportKind "/*missing ImportKind*/" ∷ t " " ∷ text ∷ [])
     ∷ (14 ⇒ name ∷ [])
     ∷ (15 ⇒ t "if " ∷ expr ∷ t " then " ∷ one Class.TrueExpr "/*missing core::option::Option<Expr>*/"
-    ∷ given (first Class.Else ∷ first Class.FalseExpr ∷ []) (t " else ")
-    ∷ given (first Class.Else ∷ first Class.FalseExpr ∷ []) (one Class.FalseExpr "/*missing core::option::Option<Expr>*/") ∷ [])
+    ∷ given (firstOf Class.Else ∷ firstOf Class.FalseExpr ∷ []) (t " else ")
+    ∷ given (firstOf Class.Else ∷ firstOf Class.FalseExpr ∷ []) (one Class.FalseExpr "/*missing core::option::Option<Expr>*/") ∷ [])
     ∷ (16 ⇒ t "function" ∷ params ∷ nl ∷ expr ∷ [])
     ∷ (17 ⇒ t "error " ∷ expr ∷ [])
-    ∷ (18 ⇒ given (first Class.Question ∷ []) (t "?") ∷ t "." ∷ name ∷ [])
-    ∷ (19 ⇒ given (first Class.Question ∷ []) (t ".?") ∷ t "[" ∷ expr ∷ t "]" ∷ [])
+    ∷ (18 ⇒ given (firstOf Class.Question ∷ []) (t "?") ∷ t "." ∷ name ∷ [])
+    ∷ (19 ⇒ given (firstOf Class.Question ∷ []) (t ".?") ∷ t "[" ∷ expr ∷ t "]" ∷ [])
     ∷ (20 ⇒ one Class.SliceDesc "/*missing SliceDesc*/" ∷ [])
     ∷ (21 ⇒ one Class.ArgsDesc "/*missing ArgsDesc*/" ∷ [])
     ∷ (23 ⇒ assertion ∷ t ";" ∷ nl ∷ [])
@@ -151,23 +151,23 @@ rows =
     ∷ (36 ⇒ t "?" ∷ [])
     ∷ (37 ⇒ t "[" ∷ deeper ∷ nl ∷ always (each Class.DestructArrayPart "" true) ∷ back ∷ t "]" ∷ [])
     ∷ (38 ⇒ t "{" ∷ deeper ∷ nl ∷ always (each Class.DestructObjectField "" false)
-    ∷ maybe Class.DestructRest ∷ given (first Class.DestructRest ∷ []) nl ∷ back ∷ t "}" ∷ [])
+    ∷ maybe Class.DestructRest ∷ given (firstOf Class.DestructRest ∷ []) nl ∷ back ∷ t "}" ∷ [])
     ∷ (39 ⇒ destruct ∷ [])
     ∷ (40 ⇒ t "..." ∷ maybe Class.Name ∷ [])
-    ∷ (41 ⇒ maybe Class.Name ∷ unless (first Class.Name ∷ []) (one Class.Text "/*missing FieldName*/") ∷ [])
+    ∷ (41 ⇒ maybe Class.Name ∷ unless (firstOf Class.Name ∷ []) (one Class.Text "/*missing FieldName*/") ∷ [])
     ∷ (42 ⇒ t "[" ∷ expr ∷ t "]" ∷ [])
     ∷ (43 ⇒ maybe Class.Ident ∷ [])
-    ∷ (44 ⇒ t "[" ∷ maybe Class.Expr ∷ t ":" ∷ maybe Class.SliceDescEnd ∷ given (first Class.SliceDescStep ∷ []) (t ":") ∷ maybe Class.SliceDescStep ∷ t "]" ∷ [])
+    ∷ (44 ⇒ t "[" ∷ maybe Class.Expr ∷ t ":" ∷ maybe Class.SliceDescEnd ∷ given (firstOf Class.SliceDescStep ∷ []) (t ":") ∷ maybe Class.SliceDescStep ∷ t "]" ∷ [])
     ∷ (45 ⇒ expr ∷ [])
     ∷ (46 ⇒ expr ∷ [])
-    ∷ (48 ⇒ given (first Class.Name ∷ first Class.Assign ∷ []) name ∷ given (first Class.Name ∷ first Class.Assign ∷ []) (t " = ") ∷ expr ∷ [])
+    ∷ (48 ⇒ given (firstOf Class.Name ∷ firstOf Class.Assign ∷ []) name ∷ given (firstOf Class.Name ∷ firstOf Class.Assign ∷ []) (t " = ") ∷ expr ∷ [])
     ∷ (49 ⇒ t "(" ∷ deeper ∷ nl ∷ always (each Class.Param "" false) ∷ back ∷ t ")" ∷ [])
-    ∷ (50 ⇒ destruct ∷ given (first Class.Assign ∷ first Class.Expr ∷ []) (t " = ") ∷ given (first Class.Assign ∷ first Class.Expr ∷ []) expr ∷ t "," ∷ nl ∷ [])
+    ∷ (50 ⇒ destruct ∷ given (firstOf Class.Assign ∷ firstOf Class.Expr ∷ []) (t " = ") ∷ given (firstOf Class.Assign ∷ firstOf Class.Expr ∷ []) expr ∷ t "," ∷ nl ∷ [])
     ∷ (51 ⇒ t "local " ∷ one Class.Bind "/*missing Bind*/" ∷ [])
-    ∷ (52 ⇒ t "assert " ∷ expr ∷ given (first Class.Colon ∷ second Class.Expr ∷ []) (t ": ") ∷ given (first Class.Colon ∷ second Class.Expr ∷ []) secondExpr ∷ [])
+    ∷ (52 ⇒ t "assert " ∷ expr ∷ given (firstOf Class.Colon ∷ secondOf Class.Expr ∷ []) (t ": ") ∷ given (firstOf Class.Colon ∷ secondOf Class.Expr ∷ []) secondExpr ∷ [])
     ∷ (53 ⇒ expr ∷ [])
     ∷ (54 ⇒ expr ∷ [])
-    ∷ (55 ⇒ name ∷ given (first Class.Destruct ∷ []) (t ": ") ∷ maybe Class.Destruct ∷ given (first Class.Expr ∷ []) (t " = ") ∷ maybe Class.Expr ∷ t "," ∷ nl ∷ [])
+    ∷ (55 ⇒ name ∷ given (firstOf Class.Destruct ∷ []) (t ": ") ∷ maybe Class.Destruct ∷ given (firstOf Class.Expr ∷ []) (t " = ") ∷ maybe Class.Expr ∷ t "," ∷ nl ∷ [])
     ∷ []
 
 -- the pieces of the first row of a kind

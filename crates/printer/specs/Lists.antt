@@ -4,7 +4,7 @@ use mathlib.Core.List.{List}
 use Prim.Native.Nat.{ℕ, _+_, _*_}
 use Prim.Native.String.{String}
 use lib.Dec.{leb}
-use Rattle.items.specs.Machine.{Lent}
+use Rattle.text.specs.Lent.{Lent}
 use Rattle.items.specs.Item.{Test, newline, mark, group, groupEnd, block, blockEnd, runEnd, again, ifTest, elseItem, endIf, Print, _⨟_, none, say, lit, when, openRun}
 use Rattle.tree.specs.declared.class.Class.{Class}
 use Rattle.tree.specs.declared.class.Class.the-variants.{Expr, Member, LBrack, RBrack, LBrace, RBrace}

@@ -6,7 +6,7 @@ use mathlib.Core.List.{List, []}
 use Prim.Native.Nat.{ℕ, _+_, _<_, _≤_}
 use lib.Dec.{eqb}
 use Rattle.items.specs.Item.{Print}
-use Rattle.items.specs.Machine.{Lent}
+use Rattle.text.specs.Lent.{Lent}
 use Rattle.tree.specs.Tree.{Part}
 use Rattle.tree.specs.declared.class.Class.{Class}
 use Rattle.tree.specs.declared.class.Kinds.{Kinds}

@@ -5,14 +5,14 @@ use mathlib.Core.List.{List, [], _∷_, _++_, flatten, map}
 use Prim.Native.Nat.{ℕ, _+_, _*_, _-_, _<_, _≤_}
 use Prim.Native.String.{String}
 use lib.Dec.{leb, eqb}
-use lib.ListN.{length, getD, take, drop}
-use Rattle.text.specs.Basic.{ascii}
+use lib.ListN.{getD, take, drop}
+use Rattle.text.specs.Words.{wordIn}
 use Rattle.items.specs.declared.Signal.the-variants.{NewLine, StartIndent, FinishIndent}
 use Rattle.items.specs.Item.{Print, none, lit}
 use Rattle.tree.specs.declared.class.Class.the-variants as Class
 use Rattle.printer.specs.declared.rows.Entry.{Entry}
 use Rattle.printer.specs.declared.rows.Extent.{Extent}
-use Rattle.printer.specs.Layout.{Want, What, txt, bare, part, opt, each, plus, Piece, Row, first, second, t, rows, layout}
+use Rattle.printer.specs.Layout.{Want, What, txt, bare, part, opt, each, plus, Piece, Row, firstOf, secondOf, t, rows, layout}
 
 -- the texts of the formatter's own, by their numbers
 unfoldable pub words : List String
@@ -25,21 +25,17 @@ words =
     ∷ ":" ∷ "/*missing Bind*/" ∷ "assert " ∷ ": "
     ∷ []
 
+-- how many they are
+abbrev pub wordCount : ℕ
+wordCount = 50
+
 -- the text with a number
 abbrev pub wordAt : ℕ → String
-wordAt w = getD words w ""
-
--- all texts joined
-abbrev pub joined : List ℕ
-joined = flatten (map ascii words)
-
--- where the text with a number starts among them
-abbrev pub startOf : ℕ → ℕ
-startOf w = length (flatten (take w (map ascii words)))
+wordAt w = wordIn words w
 
 -- w is the number of a text.
 pub record Word (w : ℕ) (s : String) : Type 0 where
-  pub known : w < 50
+  pub known : w < wordCount
   pub text : wordAt w ≡ s
 
 -- the text with a number; number 0 is no text at all
@@ -49,17 +45,21 @@ wordOrNone w = cond (eqb w 0) none (lit (wordAt w))
 -- the parts that rows want, by their numbers from 1
 unfoldable pub wants : List Want
 wants =
-    first Class.Expr ∷ first Class.Expr ∷ first Class.BinaryOperator ∷ second Class.Expr ∷ first Class.UnaryOperator ∷ first Class.Text
-    ∷ first Class.Number ∷ first Class.Literal ∷ first Class.ObjBody ∷ first Class.CompSpec ∷ first Class.ImportKind ∷ first Class.Name
-    ∷ first Class.TrueExpr ∷ first Class.Else ∷ first Class.FalseExpr ∷ first Class.ParamsDesc ∷ first Class.Question ∷ first Class.SliceDesc
-    ∷ first Class.ArgsDesc ∷ first Class.Assertion ∷ first Class.Destruct ∷ first Class.ObjLocal ∷ first Class.FieldName ∷ first Class.Visibility
-    ∷ first Class.DestructArrayPart ∷ first Class.DestructObjectField ∷ first Class.DestructRest ∷ first Class.Ident ∷ first Class.SliceDescEnd
-    ∷ first Class.SliceDescStep ∷ first Class.Assign ∷ first Class.Param ∷ first Class.Bind ∷ first Class.Colon
+    firstOf Class.Expr ∷ firstOf Class.Expr ∷ firstOf Class.BinaryOperator ∷ secondOf Class.Expr ∷ firstOf Class.UnaryOperator ∷ firstOf Class.Text
+    ∷ firstOf Class.Number ∷ firstOf Class.Literal ∷ firstOf Class.ObjBody ∷ firstOf Class.CompSpec ∷ firstOf Class.ImportKind ∷ firstOf Class.Name
+    ∷ firstOf Class.TrueExpr ∷ firstOf Class.Else ∷ firstOf Class.FalseExpr ∷ firstOf Class.ParamsDesc ∷ firstOf Class.Question ∷ firstOf Class.SliceDesc
+    ∷ firstOf Class.ArgsDesc ∷ firstOf Class.Assertion ∷ firstOf Class.Destruct ∷ firstOf Class.ObjLocal ∷ firstOf Class.FieldName ∷ firstOf Class.Visibility
+    ∷ firstOf Class.DestructArrayPart ∷ firstOf Class.DestructObjectField ∷ firstOf Class.DestructRest ∷ firstOf Class.Ident ∷ firstOf Class.SliceDescEnd
+    ∷ firstOf Class.SliceDescStep ∷ firstOf Class.Assign ∷ firstOf Class.Param ∷ firstOf Class.Bind ∷ firstOf Class.Colon
     ∷ []
+
+-- how many they are
+abbrev pub wantCount : ℕ
+wantCount = 34
 
 -- the part with a number
 abbrev pub wantAt : ℕ → Want
-wantAt w = getD wants w (first Class.Expr)
+wantAt w = getD wants w (firstOf Class.Expr)
 
 -- the part with a number as a list; number 0 is none
 unfoldable pub wanted : ℕ → List Want
@@ -82,12 +82,16 @@ abbrev pub pieceOf : Entry → Piece
 pieceOf x = record { given = wanted (x .given) ++ wanted (x .other); unless = wanted (x .unless); what = whatOf (x .what) (x .want) (x .word) }
 
 -- the pieces of all rows in their order
-unfoldable pub pieces : List Piece
-pieces = flatten (map Row.pieces rows)
+unfoldable pub allPieces : List Piece
+allPieces = flatten (map Row.pieces rows)
+
+-- how many they are
+abbrev pub pieceCount : ℕ
+pieceCount = 145
 
 -- the piece with a number
 abbrev pub pieceAt : ℕ → Piece
-pieceAt q = getD pieces q (t "")
+pieceAt q = getD allPieces q (t "")
 
 -- an entry that prints a part or nothing names the first of its kinds, and one that prints a `+` has no text
 abbrev pub settled : Entry → Bool
@@ -105,14 +109,14 @@ pub record EntryIn (ns : List ℕ) (q : ℕ) (x : Entry) : Type 0 where
 -- The entry of piece q: what it means, and that its numbers are in the tables.
 pub record Coded (q : ℕ) (x : Entry) : Type 0 where
   pub piece : pieceOf x ≡ pieceAt q
-  pub given : x .given < 34
-  pub other : x .other < 34
-  pub unless : x .unless < 34
-  pub want : x .want < 34
-  pub word : x .word < 50
+  pub given : x .given < wantCount
+  pub other : x .other < wantCount
+  pub unless : x .unless < wantCount
+  pub want : x .want < wantCount
+  pub word : x .word < wordCount
   pub settles : settled x ≡ true
 
 -- The pieces of a kind's row are those of the definition.
 pub record RowOf (k : ℕ) (r : Extent) : Type 0 where
-  pub pieces-of : take (r .end - r .start) (drop (r .start) pieces) ≡ layout k
-  pub within : r .end ≤ 145
+  pub pieces-of : take (r .end - r .start) (drop (r .start) allPieces) ≡ layout k
+  pub within : r .end ≤ pieceCount

@@ -3,7 +3,7 @@ use mathlib.Core.List.{List}
 use Prim.Native.Nat.{ℕ, suc, _+_, _<_}
 use lib.ListN.{drop}
 use Rattle.items.specs.Item.{Print}
-use Rattle.items.specs.Machine.{Lent}
+use Rattle.text.specs.Lent.{Lent}
 use Rattle.tree.specs.Tree.{Forest, Part, countN, elementsOf, forest, texts, parts}
 use Rattle.tree.specs.Image.{kindIn, levelIn, textIn}
 use Rattle.tree.specs.Index.{endAt, partsFrom, Indexed, Child}

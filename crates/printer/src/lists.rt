@@ -38,7 +38,7 @@ ghost use Rattle.items.specs.Item.{newline, indent, outdent, _⨟_, say, lit, w
 ghost use Rattle.items.specs.Machine.{PrintsIn};
 ghost use Rattle.children.specs.Spans.{Lies};
 ghost use Rattle.printer.specs.Combine.{newlineIf, onlyIf, comma, separator, ending, testOf};
-ghost use Rattle.printer.specs.Rows.{wordAt, Word};
+ghost use Rattle.printer.specs.Rows.{wordAt, Word, wordCount};
 ghost use Rattle.printer.specs.Lists.{gapIn, onLine, behindIt, above, following, endingOf, openList, endBody, repeatBody, closeBracket, closeList, closeArguments, openerOf, closerOf, childOf, emptyText, openText, closeText};
 
 // The kinds of lists: elements of an array or members of an object; arguments; members of an object comprehension, and its
@@ -258,7 +258,7 @@ pub fn open_list(
     t: Condition,
     p: Printed,
 ) -> Printed
-    requires { ⌜ bracket < 50 ⌝ }
+    requires { ⌜ bracket < wordCount ⌝ }
     ensures { λ r. ⌜ PrintsIn records texts p r (openList (wordAt bracket) (k .0) (conditionTest t)) ⌝ }
 {
     let a = print_word(records, texts, bracket, p);
@@ -289,7 +289,7 @@ fn repeat_body(records: &mut [u32], texts: &mut [u8], k: Run, p: Printed) -> Pri
 
 // Closes the bracket of list k.
 fn close_bracket(records: &mut [u32], texts: &mut [u8], bracket: u32, k: Run, p: Printed) -> Printed
-    requires { ⌜ bracket < 50 ⌝ }
+    requires { ⌜ bracket < wordCount ⌝ }
     ensures { λ r. ⌜ PrintsIn records texts p r (closeBracket (wordAt bracket) (k .0)) ⌝ }
 {
     let a = print_word(records, texts, bracket, p);
@@ -307,7 +307,7 @@ pub fn close_list(
     o: Outline,
     p: Printed,
 ) -> Printed
-    requires { ⌜ bracket < 50 ⌝ }
+    requires { ⌜ bracket < wordCount ⌝ }
     requires { ⌜ Lies (now image) (now index) (o .last) ⌝ }
     ensures { λ r. ⌜ PrintsIn records texts p r (closeList (wordAt bracket) (k .0) (endingOf (now (image .entry)) (now (index .entry)) o)) ⌝ }
 {
@@ -331,7 +331,7 @@ pub fn close_arguments(
     o: Outline,
     p: Printed,
 ) -> Printed
-    requires { ⌜ bracket < 50 ⌝ }
+    requires { ⌜ bracket < wordCount ⌝ }
     requires { ⌜ Lies (now image) (now index) (o .last) ⌝ }
     ensures { λ r. ⌜ PrintsIn records texts p r (closeArguments (wordAt bracket) (k .0) (endingOf (now (image .entry)) (now (index .entry)) o)) ⌝ }
 {

@@ -24,7 +24,7 @@ ghost use Rattle.tree.specs.Index.{endAt};
 ghost use Rattle.children.specs.Between.{Bounded};
 ghost use Rattle.printer.specs.Layout;
 ghost use Rattle.printer.specs.Layout.{asked};
-ghost use Rattle.printer.specs.Rows.{wantAt, wanted, pieceOf};
+ghost use Rattle.printer.specs.Rows.{wantAt, wanted, pieceOf, wantCount};
 ghost use Rattle.printer.specs.Under.{At, partsIn};
 ghost use Rattle.printer.specs.Reads.{partFor};
 
@@ -49,7 +49,7 @@ pub fn first_of(image: &[u8], index: &[u32], i: u32, c: Class) -> Found
 // The wanted part with a number.
 pub fn wanted_part(image: &[u8], index: &[u32], i: u32, w: u32) -> Found
     requires { ⌜ At (now image) (now index) i ⌝ }
-    requires { ⌜ w < 34 ⌝ }
+    requires { ⌜ w < wantCount ⌝ }
     ensures { λ r. ⌜ found r ≡ numberOf (nth (wantAt w .class) (wantAt w .place) (partsIn image index i)) ⌝ }
 {
     let a = first_in(image, index, i);
@@ -60,7 +60,7 @@ pub fn wanted_part(image: &[u8], index: &[u32], i: u32, w: u32) -> Found
 // Whether the wanted part with a number is there; number 0 is none.
 fn is_there(image: &[u8], index: &[u32], i: u32, w: u32) -> bool
     requires { ⌜ At (now image) (now index) i ⌝ }
-    requires { ⌜ w < 34 ⌝ }
+    requires { ⌜ w < wantCount ⌝ }
     ensures { λ r. ⌜ r ≡ any (Layout.found (partsIn image index i)) (wanted w) ⌝ }
 {
     if w == 0 {
@@ -72,9 +72,9 @@ fn is_there(image: &[u8], index: &[u32], i: u32, w: u32) -> bool
 // Whether a piece is printed.
 pub fn is_asked(image: &[u8], index: &[u32], i: u32, x: Entry) -> bool
     requires { ⌜ At (now image) (now index) i ⌝ }
-    requires { ⌜ x .given < 34 ⌝ }
-    requires { ⌜ x .other < 34 ⌝ }
-    requires { ⌜ x .unless < 34 ⌝ }
+    requires { ⌜ x .given < wantCount ⌝ }
+    requires { ⌜ x .other < wantCount ⌝ }
+    requires { ⌜ x .unless < wantCount ⌝ }
     ensures { λ r. ⌜ r ≡ asked (partsIn image index i) (pieceOf x) ⌝ }
 {
     let given = is_there(image, index, i, x.given);
@@ -87,7 +87,7 @@ pub fn is_asked(image: &[u8], index: &[u32], i: u32, x: Entry) -> bool
 // The part that a piece prints.
 pub fn part_of(image: &[u8], index: &[u32], i: u32, x: Entry) -> Found
     requires { ⌜ At (now image) (now index) i ⌝ }
-    requires { ⌜ x .want < 34 ⌝ }
+    requires { ⌜ x .want < wantCount ⌝ }
     ensures { λ r. ⌜ found r ≡ numberOf (partFor x (partsIn image index i)) ⌝ }
 {
     if x.what == PART {

@@ -15,7 +15,7 @@ ghost use Rattle.items.specs.Item.{newline, Print, _⨟_, say, lit, when};
 ghost use Rattle.items.specs.Machine.{PrintsIn};
 ghost use Rattle.tree.specs.Tree.{Part};
 ghost use Rattle.printer.specs.Layout.{bare};
-ghost use Rattle.printer.specs.Rows.{whatOf};
+ghost use Rattle.printer.specs.Rows.{whatOf, wordCount};
 ghost use Rattle.printer.specs.Print.{what};
 
 // The signal of a piece.
@@ -34,7 +34,7 @@ fn signal_of(what: u32) -> Signal
 // A piece that is a text or a signal.
 pub fn fixed(records: &mut [u32], texts: &mut [u8], x: Entry, p: Printed) -> Printed
     requires { ⌜ x .what < 4 ⌝ }
-    requires { ⌜ x .word < 50 ⌝ }
+    requires { ⌜ x .word < wordCount ⌝ }
     ensures { λ r. ⌜ ((pr : ℕ → Print) (ps : List Part) → PrintsIn records texts p r (what pr ps (whatOf (x .what) (x .want) (x .word)))) ⌝ }
 {
     if x.what == TEXT {

@@ -57,6 +57,7 @@ use items::print_signal;
 use items::print_text;
 use items::stop_at;
 use numbers::Element;
+use numbers::kind;
 use tree::Found;
 use tree::access::end_at;
 use tree::access::kind_at;
@@ -82,39 +83,11 @@ ghost use Rattle.children.specs.Spans.{Lies, gapAt, spanned};
 ghost use Rattle.printer.specs.declared.lists.Style.the-variants.{Specs};
 ghost use Rattle.printer.specs.Layout.{asked, layout};
 ghost use Rattle.printer.specs.Print.{eachOf, what, row, children, list, arguments, compOf, comprehension, localOf, valuesOf, expression};
-ghost use Rattle.printer.specs.Rows.{wordAt, wordOrNone, wantAt, pieceAt};
+ghost use Rattle.printer.specs.Rows.{wordAt, wordOrNone, wantAt, pieceAt, wordCount, wantCount, pieceCount};
 ghost use Rattle.printer.specs.Lists.{onLine, behindIt, gapIn, openerOf, closerOf, childOf, emptyText, openText, closeText};
 ghost use Rattle.printer.specs.Under.{At, Kid, partsIn, underIn, printOf, partsOf};
 ghost use Rattle.printer.specs.Walked.{around, walked, Outlined};
 ghost use Rattle.printer.specs.Reads.{numberOr, Has, Within, readAt, readIn, Whole, kidsIn, Walks};
-
-// The kinds of nodes that have printers of their own.
-const EXPR: u32 = 2;
-
-const ARRAY: u32 = 10;
-
-const LOCAL: u32 = 22;
-
-const BIND_FIRST: u32 = 24;
-
-const BIND_LAST: u32 = 25;
-
-const COMPREHENSION: u32 = 26;
-
-const MEMBER_LIST: u32 = 27;
-
-const MEMBER_FIRST: u32 = 28;
-
-const MEMBER_LAST: u32 = 31;
-
-const ARGS: u32 = 47;
-
-const ARG: u32 = 48;
-
-const VISIBILITY: u32 = 56;
-
-// The kinds from here on are tokens.
-const TOKEN: u32 = 64;
 
 // A token, or all tokens of a node joined.
 fn token(
@@ -144,19 +117,26 @@ fn node(
     ensures { λ r. ⌜ PrintsIn records texts p r (printOf (now (image .entry)) i) ⌝ }
 {
     let k = kind_at(index, i);
-    if (k >= TOKEN) | (k == VISIBILITY) {
+    if (k >= kind::FIRST_TOKEN) | (k == kind::VISIBILITY) {
         return token(records, texts, image, index, i, p);
     }
     match k {
-        EXPR => expr(records, texts, image, index, i, p),
-        ARRAY => list(records, texts, image, index, i, ListKind::Array, p),
-        LOCAL => local(records, texts, image, index, i, p),
-        BIND_FIRST..=BIND_LAST => bind(records, texts, image, index, i, p),
-        COMPREHENSION => comp(records, texts, image, index, i, p),
-        MEMBER_LIST => list(records, texts, image, index, i, ListKind::Object, p),
-        MEMBER_FIRST..=MEMBER_LAST => member(records, texts, image, index, i, p),
-        ARGS => args(records, texts, image, index, i, p),
-        ARG => arg(records, texts, image, index, i, p),
+        kind::EXPR => expr(records, texts, image, index, i, p),
+        kind::EXPR_ARRAY => list(records, texts, image, index, i, ListKind::Array, p),
+        kind::STMT_LOCAL => local(records, texts, image, index, i, p),
+        kind::BIND_DESTRUCT..=kind::BIND_FUNCTION => bind(records, texts, image, index, i, p),
+        kind::OBJ_BODY_COMP => comp(records, texts, image, index, i, p),
+        kind::OBJ_BODY_MEMBER_LIST => list(records, texts, image, index, i, ListKind::Object, p),
+        kind::MEMBER_BIND_STMT..=kind::MEMBER_FIELD_METHOD => member(
+            records,
+            texts,
+            image,
+            index,
+            i,
+            p,
+        ),
+        kind::ARGS_DESC => args(records, texts, image, index, i, p),
+        kind::ARG => arg(records, texts, image, index, i, p),
         _ => row(records, texts, image, index, i, p),
     }
 }
@@ -244,7 +224,7 @@ fn piece(
     p: Printed,
 ) -> Printed
     requires { ⌜ At (now image) (now index) i ⌝ }
-    requires { ⌜ n < 145 ⌝ }
+    requires { ⌜ n < pieceCount ⌝ }
     ensures { λ r. ⌜ PrintsIn records texts p r (when (asked (partsIn image index i) (pieceAt n)) (what (underIn image i) (partsIn image index i) (pieceAt n .what))) ⌝ }
 {
     let x = entry_at(n);
@@ -274,7 +254,7 @@ pub fn part(
 ) -> Printed
     requires { ⌜ At (now image) (now index) i ⌝ }
     requires { ⌜ Has (partsOf (now image) (now index) i) (found f) ⌝ }
-    requires { ⌜ missing < 50 ⌝ }
+    requires { ⌜ missing < wordCount ⌝ }
     ensures { λ r. ⌜ PrintsIn records texts p r (numberOr (underIn image i) (wordOrNone missing) (found f)) ⌝ }
 {
     match f {
@@ -294,8 +274,8 @@ fn each(
     p: Printed,
 ) -> Printed
     requires { ⌜ At (now image) (now index) i ⌝ }
-    requires { ⌜ x .want < 34 ⌝ }
-    requires { ⌜ x .word < 50 ⌝ }
+    requires { ⌜ x .want < wantCount ⌝ }
+    requires { ⌜ x .word < wordCount ⌝ }
     ensures { λ r. ⌜ PrintsIn records texts p r (eachOf (underIn image i) (wantAt (x .want) .class) (wordAt (x .word)) (eqb (x .what) 6) (partsIn image index i)) ⌝ }
 {
     let end = end_at(index, i);
@@ -320,8 +300,8 @@ fn one(
     p: Printed,
 ) -> Printed
     requires { ⌜ Kid (now image) (now index) i j ⌝ }
-    requires { ⌜ x .want < 34 ⌝ }
-    requires { ⌜ x .word < 50 ⌝ }
+    requires { ⌜ x .want < wantCount ⌝ }
+    requires { ⌜ x .word < wordCount ⌝ }
     ensures { λ r. ⌜ PrintsIn records texts p r (eachOf (underIn image i) (wantAt (x .want) .class) (wordAt (x .word)) (eqb (x .what) 6) (partAt (now (image .entry)) (now (index .entry)) j ∷ [])) ⌝ }
 {
     if !is(kinds_wanted(x.want), kind_at(index, j)) {

@@ -1,10 +1,11 @@
 // The rows of pieces: what nodes with a fixed layout print.
+use numbers::wide;
 use tree::class::Kinds;
 ghost use mathlib.Core.Path.{_≡_};
-ghost use Prim.Native.Nat.{_-_, _<_, _≤_};
+ghost use Prim.Native.Nat.{_*_, _-_, _<_, _≤_};
 ghost use lib.ListN.{length};
 ghost use Rattle.tree.specs.Class.{kinds};
-ghost use Rattle.printer.specs.Rows.{wantAt, EntryIn, Coded, RowOf};
+ghost use Rattle.printer.specs.Rows.{wantAt, EntryIn, Coded, RowOf, wantCount, pieceCount};
 
 // What a piece prints: a text; a newline; an indent; an outdent; a part, or the text if it is missing; all parts of a class;
 // the same, each before a comma and a newline; the `+` of a field.
@@ -259,13 +260,6 @@ pub struct Extent {
     pub end: u32,
 }
 
-// A byte as a number.
-fn wide(b: u8) -> u32
-    ensures { λ r. ⌜ r ≡ b ⌝ }
-{
-    b as u32
-}
-
 // The pieces of a kind's row.
 pub fn row_of(k: u32) -> Extent
     requires { ⌜ k < 64 ⌝ }
@@ -273,8 +267,8 @@ pub fn row_of(k: u32) -> Extent
 {
     let at = k as usize;
     Extent {
-        start: wide(ROWS[at]),
-        end: wide(ROWS[at + 1]),
+        start: wide::from_u8(ROWS[at]),
+        end: wide::from_u8(ROWS[at + 1]),
     }
 }
 
@@ -287,8 +281,8 @@ fn value(b: u8, zero: u8) -> u32
 
 // The piece with a number in a table of pieces.
 fn entry_in(table: &[u8], q: u32) -> Entry
-    requires { ⌜ q < 145 ⌝ }
-    requires { ⌜ 870 ≤ length (now table) ⌝ }
+    requires { ⌜ q < pieceCount ⌝ }
+    requires { ⌜ 6 * pieceCount ≤ length (now table) ⌝ }
     ensures { λ r. ⌜ EntryIn (now (table .entry)) q r ⌝ }
 {
     let at = (q as usize) * SIZE;
@@ -304,7 +298,7 @@ fn entry_in(table: &[u8], q: u32) -> Entry
 
 // The piece with a number.
 pub fn entry_at(q: u32) -> Entry
-    requires { ⌜ q < 145 ⌝ }
+    requires { ⌜ q < pieceCount ⌝ }
     ensures { λ r. ⌜ Coded q r ⌝ }
 {
     // The pieces of all rows in the order of their kinds, six characters each, fifteen pieces a line. The compiler lays the string out
@@ -325,22 +319,22 @@ pub fn entry_at(q: u32) -> Entry
 
 // The kinds of a wanted part.
 pub fn kinds_wanted(w: u32) -> Kinds
-    requires { ⌜ w < 34 ⌝ }
+    requires { ⌜ w < wantCount ⌝ }
     ensures { λ r. ⌜ r ≡ kinds (wantAt w .class) ⌝ }
 {
     let at = w as usize;
     Kinds {
-        lo: wide(WANT_FROM[at]),
-        hi: wide(WANT_TO[at]),
-        but: wide(WANT_BUT[at]),
+        lo: wide::from_u8(WANT_FROM[at]),
+        hi: wide::from_u8(WANT_TO[at]),
+        but: wide::from_u8(WANT_BUT[at]),
     }
 }
 
 // Which of its kinds a wanted part is, from 0.
 pub fn place_wanted(w: u32) -> u32
-    requires { ⌜ w < 34 ⌝ }
+    requires { ⌜ w < wantCount ⌝ }
     ensures { λ r. ⌜ r ≡ wantAt w .place ⌝ }
 {
     let at = w as usize;
-    wide(WANT_PLACE[at])
+    wide::from_u8(WANT_PLACE[at])
 }

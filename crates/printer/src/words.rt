@@ -1,11 +1,13 @@
 // The texts of the formatter's own, by their numbers.
 use items::Printed;
 use items::print_text;
+use numbers::wide;
 ghost use mathlib.Core.Path.{_≡_};
-ghost use Prim.Native.Nat.{_<_};
+ghost use Prim.Native.Nat.{_<_, _≤_};
+ghost use Rattle.text.specs.Words.{wordStart};
 ghost use Rattle.items.specs.Item.{lit};
 ghost use Rattle.items.specs.Machine.{PrintsIn};
-ghost use Rattle.printer.specs.Rows.{wordAt, startOf, wordOrNone};
+ghost use Rattle.printer.specs.Rows.{words, wordAt, wordOrNone, wordCount};
 
 pub const COMMA: u32 = 1;
 
@@ -92,25 +94,18 @@ const STARTS: [u16; 51] = [
     506,
 ];
 
-// A place as a number.
-fn wide(x: u16) -> usize
-    ensures { λ r. ⌜ r ≡ x ⌝ }
-{
-    x as usize
-}
-
 // Where the text with a number starts, which is where the one before it ends.
 fn start_of(w: u32) -> usize
-    requires { ⌜ w < 51 ⌝ }
-    ensures { λ r. ⌜ r ≡ startOf w ⌝ }
+    requires { ⌜ w ≤ wordCount ⌝ }
+    ensures { λ r. ⌜ r ≡ wordStart words w ⌝ }
 {
     let at = w as usize;
-    wide(STARTS[at])
+    wide::from_u16(STARTS[at]) as usize
 }
 
 // Prints the text with a number.
 pub fn print_word(records: &mut [u32], texts: &mut [u8], w: u32, p: Printed) -> Printed
-    requires { ⌜ w < 50 ⌝ }
+    requires { ⌜ w < wordCount ⌝ }
     ensures { λ r. ⌜ PrintsIn records texts p r (lit (wordAt w)) ⌝ }
 {
     let all: &[u8] =
@@ -122,7 +117,7 @@ pub fn print_word(records: &mut [u32], texts: &mut [u8], w: u32, p: Printed) -> 
 
 // Prints the text with a number, and nothing for number 0.
 pub fn print_optional(records: &mut [u32], texts: &mut [u8], w: u32, p: Printed) -> Printed
-    requires { ⌜ w < 50 ⌝ }
+    requires { ⌜ w < wordCount ⌝ }
     ensures { λ r. ⌜ PrintsIn records texts p r (wordOrNone w) ⌝ }
 {
     if w == 0 {

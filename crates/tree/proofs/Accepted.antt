@@ -11,7 +11,7 @@ use borrow.Author.Tests.{eqb-true, eqb-false, ltb-false, not-false}
 use Rattle.text.specs.Basic.{sum}
 use Rattle.tree.specs.Tree.{countN, countB, elementsOf}
 use Rattle.tree.specs.Image.{startIn}
-use Rattle.tree.specs.Refusal.{Refusal, refusedAt, refusedIf, tests, firstOf, refusal, wrongLength, outOfLimits, firstWhere, unknownKind, firstMisplaced, nodeWithText, orSum, wrongSizes, notUtf8, stringBlock, misformed, firstNameless}
+use Rattle.tree.specs.Refusal.{Refusal, refusedAt, refusedIf, tests, firstRefusal, refusal, wrongLength, outOfLimits, firstWhere, unknownKind, firstMisplaced, nodeWithText, orSum, wrongSizes, notUtf8, stringBlock, misformed, firstNameless}
 use Rattle.tree.specs.Answer.{answered, answer, passed}
 use Rattle.tree.proofs.Elements.{sizes-all}
 
@@ -38,8 +38,8 @@ pub or-false : (a b : Bool) → (a || b) ≡ false → (a ≡ false) × (b ≡ f
 or-false true b h = (h, let z : _≡_ {A = ℕ} 0 1 = cc in absurd (omega arith))
 or-false false b h = (refl, h)
 
-all-none : (t : Option Refusal) (ts : List (Option Refusal)) → firstOf (t ∷ ts) ≡ none → (t ≡ none) × (firstOf ts ≡ none)
-unfolding firstOf
+all-none : (t : Option Refusal) (ts : List (Option Refusal)) → firstRefusal (t ∷ ts) ≡ none → (t ≡ none) × (firstRefusal ts ≡ none)
+unfolding firstRefusal
 all-none none ts h = (refl, h)
 all-none (some r) ts h = absurd (never r h)
 

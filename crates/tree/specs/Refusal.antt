@@ -124,13 +124,13 @@ tests image =
     ∷ []
 
 -- the first refusal of a list of tests
-unfoldable pub firstOf : List (Option Refusal) → Option Refusal
-firstOf [] = none
-firstOf (t ∷ ts) = orElse t (firstOf ts)
+unfoldable pub firstRefusal : List (Option Refusal) → Option Refusal
+firstRefusal [] = none
+firstRefusal (t ∷ ts) = orElse t (firstRefusal ts)
 
 -- why an image is turned away before it is printed
 unfoldable pub refusal : List ℕ → Option Refusal
-refusal image = firstOf (tests image)
+refusal image = firstRefusal (tests image)
 
 -- what a test of one element looks for
 abbrev pub testOf : Test → Element → Bool

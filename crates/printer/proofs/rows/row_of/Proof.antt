@@ -15,17 +15,17 @@ returns c =
     let c1 = c .before in
     let s = c1 .before in
     row-pieces (s .args .k) (s .pre)
-    (c1 .wide .ensures ∙ tabled-at 0 65 rowStart (s .args .k) (omega (arith, s .pre)))
-    (c .wide2 .ensures ∙ tabled-at 0 65 rowStart (s .args .k + 1) (omega (arith, s .pre)))
+    (c1 .from-u8 .ensures ∙ tabled-at 0 65 rowStart (s .args .k) (omega (arith, s .pre)))
+    (c .from-u82 .ensures ∙ tabled-at 0 65 rowStart (s .args .k + 1) (omega (arith, s .pre)))
 
 pub row-of-spec : {M : Type 1} → statement M
 row-of-spec =
     tie.close
     (tie.spec
-    (λ c. search needs)  -- array-read-wide
-    (λ c κs. search needs)  -- wide-requires
-    (λ c. search needs)  -- add-wide
-    (λ c. search needs)  -- array-read-wide-2
-    (λ c κs. search needs)  -- wide-requires-2
+    (λ c. search needs)  -- array-read-from-u8
+    (λ c κs. search needs)  -- from-u8-requires
+    (λ c. search needs)  -- add-from-u8
+    (λ c. search needs)  -- array-read-from-u8-2
+    (λ c κs. search needs)  -- from-u8-requires-2
     returns  -- returns
     )

@@ -1,7 +1,7 @@
 use borrow.Author.Needs.{needs}
 use mathlib.Core.List.{flatten}
 use native.Mathlib.Omega.{arith}
-use Rattle.printer.proofs.Tables.{word-said, start-le, start-in}
+use Rattle.printer.proofs.Tables.{word-said, start-le, end-in}
 use Rattle.printer.specs.Rows.{words}
 use Rattle.printer.proofs.words.print_word.Statement.{statement}
 use Rattle.printer.proofs.words.print_word.Tie as tie
@@ -16,6 +16,7 @@ returns c =
     word-said (s .args .w) (s .pre) (s1 .start-of .ensures) (s2 .start-of2 .ensures) (c1 .print-text .ensures)
 
 pub print-word-spec : {M : Type 1} → statement M
+unfolding words flatten
 print-word-spec =
     tie.close
     (tie.spec
@@ -25,7 +26,7 @@ print-word-spec =
     (λ c κs. search needs)  -- start-of-requires-2
     (λ c. search (start-le, arith))  -- sub-print-text
     (λ c. search (start-le, arith))  -- part-print-text-start
-    (λ c. search (start-in, arith))  -- part-print-text-end
+    (λ c. search (end-in, arith))  -- part-print-text-end
     (λ c κs. search needs)  -- print-text-requires
     (λ c. returns c .sameRecords)  -- same-length
     (λ c. returns c .sameTexts)  -- same-length-2

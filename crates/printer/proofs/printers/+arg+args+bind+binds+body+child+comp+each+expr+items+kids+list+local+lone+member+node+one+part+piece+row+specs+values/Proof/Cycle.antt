@@ -72,7 +72,7 @@ use Rattle.children.proofs.between.bounds_between.Reads as bounds-between-reads
 use Rattle.children.proofs.gap.gap.Reads as gap-reads
 use Rattle.children.proofs.gap.lead.Reads as lead-reads
 use Rattle.children.proofs.print.print_waiting.Reads as print-waiting-reads
-use Rattle.children.proofs.survey.is_nothing.Reads as is-nothing-reads
+use Rattle.tree.proofs.is_nothing.Reads as is-nothing-reads
 use Rattle.children.proofs.survey.survey.Reads as survey-reads
 use Rattle.children.proofs.survey.survey_after.Reads as survey-after-reads
 use Rattle.items.proofs.next_run.Reads as next-run-reads
