@@ -10,7 +10,7 @@ use lib.ListN.{length, drop}
 use lib.Seq.{drop-append-seam}
 use Rattle.items.specs.Item.{Item, Out, stop, ok}
 use Rattle.items.specs.Role.{runsOf, marksOf}
-use Rattle.items.specs.Records.{words, bytes, Counts, countsOf, overlaid, decoded}
+use Rattle.items.specs.Records.{words, bytes, Counts, countsOf, overlaid, decoded, recordSize}
 use Rattle.items.proofs.Decoding.{decoded-is, words-length}
 use Rattle.tree.specs.Tree.{countN, countB, treeOf}
 use Rattle.tree.specs.Refusal.{Refusal, refusal}
@@ -37,7 +37,7 @@ unless n e false h = h
 room-printed : (w r : ℕ) (v : Verdict) (xs : List Item) → withRoom w r v ≡ printed xs → v ≡ printed xs
 unfolding withRoom
 room-printed w r (turnedAway n e) xs h = away n e xs h
-room-printed w r (printed ys) xs h = unless 12 0 (ltb r (length (bytes ys))) (unless 11 0 (ltb w (3 * length ys)) h)
+room-printed w r (printed ys) xs h = unless 12 0 (ltb r (length (bytes ys))) (unless 11 0 (ltb w (recordSize * length ys)) h)
 
 listing-printed : (ls : Option (List ℕ)) (v : Verdict) (xs : List Item) → withListing ls v ≡ printed xs → v ≡ printed xs
 unfolding withListing
@@ -123,13 +123,13 @@ listing-untouched image rs ts ls n e h = kept (some ls) listing ls (ruling image
 -- an answer with counts leaves what is past them as it was
 pub beyond :
     (image rs ts : List ℕ) (ls : Option (List ℕ)) (c : Counts) (n : Option ℕ) → answer image rs ts ls ≡ done c n
-    → (drop (3 * c .records) (recordsAfter image rs ts ls) ≡ drop (3 * c .records) rs) × (drop (c .texts) (textsAfter image rs ts ls) ≡ drop (c .texts) ts)
+    → (drop (recordSize * c .records) (recordsAfter image rs ts ls) ≡ drop (recordSize * c .records) rs) × (drop (c .texts) (textsAfter image rs ts ls) ≡ drop (c .texts) ts)
 unfolding answer recordsAfter textsAfter bufferOf
 beyond image rs ts ls c n h = let (xs, v, e, _) = answer-printed ls (ruling image rs ts ls) c n h in go xs v e
   where
     go : (xs : List Item) → ruling image rs ts ls ≡ printed xs → c ≡ countsOf xs
-        → (drop (3 * c .records) (recordsAfter image rs ts ls) ≡ drop (3 * c .records) rs) × (drop (c .texts) (textsAfter image rs ts ls) ≡ drop (c .texts) ts)
-    go xs v e = rw (v, e) (behind (3 * length xs) (words 0 xs) rs (words-length 0 xs), behind (length (bytes xs)) (bytes xs) ts refl)
+        → (drop (recordSize * c .records) (recordsAfter image rs ts ls) ≡ drop (recordSize * c .records) rs) × (drop (c .texts) (textsAfter image rs ts ls) ≡ drop (c .texts) ts)
+    go xs v e = rw (v, e) (behind (recordSize * length xs) (words 0 xs) rs (words-length 0 xs), behind (length (bytes xs)) (bytes xs) ts refl)
 
 -- where a listing was asked for, the answer gives its length, and its buffer begins with it and goes on as it was
 pub listed :

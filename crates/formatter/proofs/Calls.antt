@@ -10,7 +10,7 @@ use lib.ListN.{length, drop, length-append}
 use borrow.Author.Tests.{lt-ltb, le-ltb, ltb-false}
 use Rattle.items.specs.Item.{Print, Item, Out, stop, ok}
 use Rattle.items.specs.Lines.{recordLines}
-use Rattle.items.specs.Records.{words, bytes, Counts, countsOf, overlaid, decoded}
+use Rattle.items.specs.Records.{words, bytes, Counts, countsOf, overlaid, decoded, recordSize}
 use Rattle.items.specs.Machine.{State, halted, reached, run, seen, held, Prints, noCounts}
 use Rattle.items.proofs.Fits.{Fits, run-room, run-empty, run-stopping, from-start, store-overlaid, starting, itemsOf}
 use Rattle.numbers.specs.declared.Element.{Element}
@@ -25,8 +25,8 @@ use Rattle.tree.proofs.Accepted.{accepted}
 use Rattle.tree.specs.Index.{Indexed}
 use Rattle.listing.specs.Listing.{headLine, listing}
 use Rattle.listing.specs.Writes.{page, Writes}
-use Rattle.listing.specs.Told.{Told, itemsIn}
-use Rattle.listing.proofs.Told.{items-are, told as tell}
+use Rattle.listing.specs.Listable.{Listable, itemsIn}
+use Rattle.listing.proofs.Listable.{items-are, listable as tell}
 use Rattle.printer.specs.Print.{sourceFile}
 use Rattle.formatter.specs.declared.Answer as code
 use Rattle.formatter.specs.declared.refusal.Refusal as code-refusal
@@ -132,7 +132,7 @@ module _ (image : List ℕ) (w r : ℕ) (table : List ℕ) where
   unfolding verdict fromTests fromPrinting withRoom answerOf
   fits p c a n i h j e =
       let (k, o, f) = tally-done source c (sym j ∙ h) in
-      record { answers = e ∙ rw (n, o, f) (go (itemsOf source) (ltb w (3 * length (itemsOf source))) (ltb r (length (bytes (itemsOf source))))); indexed = λ _ _. i }
+      record { answers = e ∙ rw (n, o, f) (go (itemsOf source) (ltb w (recordSize * length (itemsOf source))) (ltb r (length (bytes (itemsOf source))))); indexed = λ _ _. i }
     where
       go : (xs : List Item) (s t : Bool)
           → cond s (refused 11 0) (cond t (refused 12 0) (done (countsOf xs) none)) ≡ answerOf none (cond s (turnedAway 11 0) (cond t (turnedAway 12 0) (printed xs)))
@@ -141,14 +141,14 @@ module _ (image : List ℕ) (w r : ℕ) (table : List ℕ) where
       go xs false false = refl
 
 -- the room by the counts
-pub no-records : (c : Counts) (w r : ℕ) → w < 3 * c .records → refused 11 0 ≡ roomFor c w r
-no-records c w r h = rw (lt-ltb w (3 * c .records) h)
+pub no-records : (c : Counts) (w r : ℕ) → w < recordSize * c .records → refused 11 0 ≡ roomFor c w r
+no-records c w r h = rw (lt-ltb w (recordSize * c .records) h)
 
-pub no-texts : (c : Counts) (w r : ℕ) → 3 * c .records ≤ w → r < c .texts → refused 12 0 ≡ roomFor c w r
-no-texts c w r h k = rw (le-ltb w (3 * c .records) h, lt-ltb r (c .texts) k)
+pub no-texts : (c : Counts) (w r : ℕ) → recordSize * c .records ≤ w → r < c .texts → refused 12 0 ≡ roomFor c w r
+no-texts c w r h k = rw (le-ltb w (recordSize * c .records) h, lt-ltb r (c .texts) k)
 
-pub all-room : (c : Counts) (w r : ℕ) → 3 * c .records ≤ w → c .texts ≤ r → done c none ≡ roomFor c w r
-all-room c w r h k = rw (le-ltb w (3 * c .records) h, le-ltb r (c .texts) k)
+pub all-room : (c : Counts) (w r : ℕ) → recordSize * c .records ≤ w → c .texts ≤ r → done c none ≡ roomFor c w r
+all-room c w r h k = rw (le-ltb w (recordSize * c .records) h, le-ltb r (c .texts) k)
 
 -- ---- what is judged, printed and listed
 
@@ -177,11 +177,11 @@ unless n e a b v xs h = go (ltb a b) refl h
     go true q k = absurd (let z : _≡_ {A = ℕ} 0 1 = cc in omega arith)
     go false q k = (ltb-false a b q, k)
 
-roomy : (w r : ℕ) (v : Verdict) (xs : List Item) → withRoom w r v ≡ printed xs → (3 * length xs ≤ w) × (length (bytes xs) ≤ r)
+roomy : (w r : ℕ) (v : Verdict) (xs : List Item) → withRoom w r v ≡ printed xs → (recordSize * length xs ≤ w) × (length (bytes xs) ≤ r)
 unfolding withRoom
 roomy w r (turnedAway n e) xs h = absurd (let z : _≡_ {A = ℕ} 0 1 = cc in omega arith)
 roomy w r (printed ys) xs h =
-    let (p, k) = unless 11 0 w (3 * length ys) _ xs h in
+    let (p, k) = unless 11 0 w (recordSize * length ys) _ xs h in
     let (q, l) = unless 12 0 r (length (bytes ys)) _ xs k in
     let e : ys ≡ xs = cc in
     rw (← e) (p, q)

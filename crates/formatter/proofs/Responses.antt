@@ -14,7 +14,7 @@ use Rattle.formatter.specs.declared.refusal.Refusal.{Refusal}
 use Rattle.formatter.specs.declared.refusal.Numbered.{Numbered}
 use Rattle.formatter.specs.declared.ListAnswer.{ListAnswer}
 use Rattle.formatter.specs.declared.ListAnswer.the-variants.{Listed, Refused}
-use Rattle.items.specs.Records.{Counts}
+use Rattle.items.specs.Records.{Counts, recordSize}
 use Rattle.formatter.specs.Answer.{Verdict, turnedAway, printed, verdict, withRoom, withListing, ruling, answerOf, answer, bufferOf, listingAfter}
 use Rattle.formatter.specs.Told.{numberOf, elementOf, toldList}
 use Rattle.formatter.specs.Program.{blank, judged, printedOf, response, numberIn, Responds}
@@ -25,11 +25,11 @@ blank-long : (n : ℕ) → length (blank n) ≡ n
 unfolding blank
 blank-long n = length-replicate n 0
 
-module _ (image rs ts ls : List ℕ) (a : length rs ≡ 3 * 5000) (b : length ts ≡ 32000) (c : length ls ≡ 65536) where
+module _ (image rs ts ls : List ℕ) (a : length rs ≡ recordSize * 5000) (b : length ts ≡ 32000) (c : length ls ≡ 65536) where
   -- of buffers only the lengths are judged
   as-judged : judged image ≡ ruling image rs ts (some ls)
   unfolding judged ruling withListing
-  as-judged = rw (blank-long, blank-long, a, b) (go (withRoom (3 * 5000) 32000 (verdict image)))
+  as-judged = rw (blank-long, blank-long, a, b) (go (withRoom (recordSize * 5000) 32000 (verdict image)))
     where
       go : (v : Verdict) → withListing (some (blank 65536)) v ≡ withListing (some ls) v
       go (turnedAway n e) = refl

@@ -6,7 +6,7 @@ use Prim.Native.Nat.{ℕ, _*_}
 use lib.Dec.{ltb}
 use lib.ListN.{length}
 use Rattle.items.specs.Item.{Item, Out, stop, ok}
-use Rattle.items.specs.Records.{words, bytes, Counts, countsOf, overlaid}
+use Rattle.items.specs.Records.{words, bytes, Counts, countsOf, overlaid, recordSize}
 use Rattle.tree.specs.Tree.{treeOf}
 use Rattle.tree.specs.Refusal.{Refusal, refusal}
 use Rattle.listing.specs.Listing.{listing}
@@ -35,7 +35,7 @@ verdict image = fromTests (refusal image) (fromPrinting (sourceFile (treeOf imag
 unfoldable pub withRoom : ℕ → ℕ → Verdict → Verdict
 withRoom words room (turnedAway n e) = turnedAway n e
 withRoom words room (printed xs) =
-    cond (ltb words (3 * length xs)) (turnedAway 11 0)
+    cond (ltb words (recordSize * length xs)) (turnedAway 11 0)
     (cond (ltb room (length (bytes xs))) (turnedAway 12 0)
     (printed xs))
 

@@ -6,7 +6,7 @@ use mathlib.Core.List.{List}
 use Prim.Native.Nat.{ℕ, _*_}
 use lib.Dec.{ltb}
 use Rattle.items.specs.Item.{Out, stop, ok}
-use Rattle.items.specs.Records.{Counts, countsOf}
+use Rattle.items.specs.Records.{Counts, countsOf, recordSize}
 use Rattle.items.specs.declared.Printed.{Printed}
 use Rattle.items.specs.declared.Printed.the-variants.{Done, Stopped}
 use Rattle.tree.specs.Index.{Indexed}
@@ -24,4 +24,4 @@ tally (ok xs k) = Done (countsOf xs)
 
 -- 11 and 12 by the counts
 abbrev pub roomFor : Counts → ℕ → ℕ → Answer
-roomFor c words room = cond (ltb words (3 * c .records)) (refused 11 0) (cond (ltb room (c .texts)) (refused 12 0) (done c none))
+roomFor c words room = cond (ltb words (recordSize * c .records)) (refused 11 0) (cond (ltb room (c .texts)) (refused 12 0) (done c none))

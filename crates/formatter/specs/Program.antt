@@ -5,7 +5,7 @@ use mathlib.Core.Option.{some}
 use mathlib.Core.List.{List}
 use Prim.Native.Nat.{ℕ, _*_, _≤_}
 use lib.ListN.{length, replicate}
-use Rattle.items.specs.Records.{overlaid}
+use Rattle.items.specs.Records.{overlaid, recordSize}
 use Rattle.listing.specs.Listing.{listing, refusedLine}
 use Rattle.formatter.specs.declared.program.Response.{Response}
 use Rattle.formatter.specs.Answer.{Verdict, turnedAway, printed, ruling}
@@ -16,7 +16,7 @@ blank n = replicate n 0
 
 -- the thirteen tests, with the program's room
 unfoldable pub judged : List ℕ → Verdict
-judged image = ruling image (blank (3 * 5000)) (blank 32000) (some (blank 65536))
+judged image = ruling image (blank (recordSize * 5000)) (blank 32000) (some (blank 65536))
 
 -- 'the listing, or one line with `refused`, number and element'
 unfoldable pub printedOf : Verdict → List ℕ

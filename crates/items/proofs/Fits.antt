@@ -16,7 +16,7 @@ use Rattle.items.specs.declared.Printed.the-variants.{Done}
 use Rattle.items.specs.Item.{always, lines, Item, signal, text, mark, runEnd, again, ifTest, Out, stop, ok, Print, run as opening}
 use Rattle.items.specs.Role.{role, isRun, isMark, runsOf, marksOf}
 use Rattle.items.specs.Lines.{recordLine, recordLines}
-use Rattle.items.specs.Records.{recordOf, bytesOf, words, bytes, Counts, countsOf, overlaid}
+use Rattle.items.specs.Records.{recordOf, bytesOf, words, bytes, Counts, countsOf, overlaid, recordSize}
 use Rattle.items.specs.Machine.{State, store, counted, fit, printable, emitted, emitAll, onward, Outcome, halted, reached, halting, reaching, finish, run, seen, Held, held, outcome, Prints, noCounts}
 use Rattle.items.proofs.Decoding.{words-length}
 
@@ -57,7 +57,7 @@ abbrev allEmitted : List Item → State → State
 allEmitted xs σ =
     let c = σ .count in
     record {
-      records = store (σ .records) (3 * c .records) (words (c .texts) xs);
+      records = store (σ .records) (recordSize * c .records) (words (c .texts) xs);
       texts = store (σ .texts) (c .texts) (bytes xs);
       count = record { records = c .records + length xs; texts = c .texts + length (bytes xs); runs = c .runs + runsOf xs; marks = c .marks + marksOf xs; lines = c .lines + length (recordLines (c .records) xs) };
     }
@@ -76,7 +76,7 @@ unfolding words bytes sum recordLines
 allEmitted-cons x xs σ =
     let c = σ .count in
     let r = recordOf (c .texts) x in
-    let e₀ : 3 * (c .records + 1) ≡ 3 * c .records + 3 = omega arith in
+    let e₀ : recordSize * (c .records + 1) ≡ recordSize * c .records + recordSize = omega arith in
     let e₁ : c .records + 1 + length xs ≡ c .records + suc (length xs) = omega arith in
     let e₂ : c .texts + length (bytesOf x) + length (bytes xs) ≡ c .texts + length (bytesOf x ++ bytes xs) = rw (length-append (bytesOf x) (bytes xs)) (omega arith) in
     let e₃ : c .runs + isRun (role x) + runsOf xs ≡ c .runs + (isRun (role x) + runsOf xs) = omega arith in
@@ -84,7 +84,7 @@ allEmitted-cons x xs σ =
     let e₅ : c .lines + length (recordLine (c .records) x) + length (recordLines (suc (c .records)) xs) ≡ c .lines + length (recordLine (c .records) x ++ recordLines (suc (c .records)) xs) =
     rw (length-append (recordLine (c .records) x) (recordLines (suc (c .records)) xs)) (omega arith) in
     let e₆ : c .records + 1 ≡ suc (c .records) = omega arith in
-    rw (e₀, store-append (r .kind ∷ r .first ∷ r .second ∷ []) (words (c .texts + length (bytesOf x)) xs) (σ .records) (3 * c .records), store-append (bytesOf x) (bytes xs) (σ .texts) (c .texts), e₁, e₂, e₃, e₄, e₆, e₅)
+    rw (e₀, store-append (r .kind ∷ r .first ∷ r .second ∷ []) (words (c .texts + length (bytesOf x)) xs) (σ .records) (recordSize * c .records), store-append (bytesOf x) (bytes xs) (σ .texts) (c .texts), e₁, e₂, e₃, e₄, e₆, e₅)
 
 all-emitted : (xs : List Item) (σ : State) → emitAll xs σ ≡ cond (allFit xs (σ .count)) (some (allEmitted xs σ)) none
 unfolding emitAll allFit
@@ -180,7 +180,7 @@ run-fitting p xs k rs ts e f = run-start p rs ts ∙ rw (e, fits-start xs f)
 
 -- buffers with room hold the words of the records and the bytes of the texts, and go on as they were
 pub run-room :
-    (p : Print) (xs : List Item) (k : ℕ) (rs ts : List ℕ) → p 0 ≡ ok xs k → Fits xs → 3 * length xs ≤ length rs → length (bytes xs) ≤ length ts
+    (p : Print) (xs : List Item) (k : ℕ) (rs ts : List ℕ) → p 0 ≡ ok xs k → Fits xs → recordSize * length xs ≤ length rs → length (bytes xs) ≤ length ts
     → run p (starting rs ts) ≡ reached (record { records = overlaid (words 0 xs) rs; texts = overlaid (bytes xs) ts; count = countsOf xs }) k
 run-room p xs k rs ts e f h₁ h₂ = run-fitting p xs k rs ts e f ∙ rw (store-overlaid (words 0 xs) rs (rw (words-length 0 xs) h₁), store-overlaid (bytes xs) ts h₂)
 

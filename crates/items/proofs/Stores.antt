@@ -7,6 +7,7 @@ use native.Mathlib.Numerals.{add-one}
 use lib.ListN.{length, set, getD, drop, drop-of-length-le, length-set}
 use lib.Seq.{drop-cons}
 use Rattle.items.specs.Machine.{store, storeRecord}
+use Rattle.items.specs.Records.{recordSize}
 
 -- What a loop that stores s from `at` on keeps, where i bytes are stored: what is still to be stored gives the whole.
 pub record Storing (b₀ : List ℕ) (at : ℕ) (s b : List ℕ) (i : ℕ) : Type 0 where
@@ -32,9 +33,9 @@ unfolding store
 storing-all {b₀} {b} {s} {at} {i} k h = rw (drop-of-length-le s h) at (k .rest)
 
 -- three stores in a row are a record
-pub three-words : (b b₁ b₂ b₃ : List ℕ) (n k f s : ℕ) → b₁ ≡ set b (3 * n) k → b₂ ≡ set b₁ (3 * n + 1) f → b₃ ≡ set b₂ (3 * n + 2) s → b₃ ≡ storeRecord b n k f s
+pub three-words : (b b₁ b₂ b₃ : List ℕ) (n k f s : ℕ) → b₁ ≡ set b (recordSize * n) k → b₂ ≡ set b₁ (recordSize * n + 1) f → b₃ ≡ set b₂ (recordSize * n + 2) s → b₃ ≡ storeRecord b n k f s
 unfolding store
 three-words b b₁ b₂ b₃ n k f s e₁ e₂ e₃ =
-    let h₁ : 3 * n + 1 ≡ suc (3 * n) = omega arith in
-    let h₂ : 3 * n + 2 ≡ suc (suc (3 * n)) = omega arith in
+    let h₁ : recordSize * n + 1 ≡ suc (recordSize * n) = omega arith in
+    let h₂ : recordSize * n + 2 ≡ suc (suc (recordSize * n)) = omega arith in
     rw (e₃, e₂, e₁, h₁, h₂)

@@ -13,8 +13,8 @@ use Rattle.text.specs.Basic.{within}
 use Rattle.text.proofs.Lists.{and-true}
 use Rattle.items.specs.Item.{always, lines, Item, text, newline, spaceOrNewline, tab, indent, outdent, mark, group, groupEnd, block, blockEnd, run, runEnd, again, ifTest, elseItem, endIf}
 use Rattle.items.specs.Records.{bare, withOperand, condition, stored, itemOf}
-use Rattle.items.specs.Lines.{described}
-use Rattle.items.specs.Names.{names, nameAt}
+use Rattle.items.specs.Lines.{described, kindNames}
+use Rattle.items.specs.Names.{otherNames, namesOf, nameAt}
 use Rattle.listing.specs.Shown.{storedText, shown, Readable}
 
 -- A record shows item x.
@@ -33,6 +33,7 @@ module _ (ts : List ℕ) (k a b : ℕ) (x : Item) where
 
   -- an item y of a kind that is no text, where a test of the operands holds
   only : (j : ℕ) (y : Item) (t : Bool) → within 2 17 j ≡ true → shown ts j a b ≡ described y → cond t (some y) none ≡ some x → Shows ts j a b x
+  unfolding kindNames
   only j y true h e r =
       let i : y ≡ x = cc in
       let (l, u) = and-true (leb 2 j) (leb j 17) h in
@@ -48,7 +49,7 @@ module _ (ts : List ℕ) (k a b : ℕ) (x : Item) where
   counting j f h e r = only j (f a) (eqb b 0) h e r
 
   text-shows : stored ts a b ≡ some x → Shows ts 1 a b x
-  unfolding shown storedText names nameAt described
+  unfolding shown storedText kindNames otherNames namesOf nameAt described
   text-shows h = go (leb (a + b) (length ts)) refl h
     where
       go : (t : Bool) → leb (a + b) (length ts) ≡ t → cond t (some (text (take b (drop a ts)))) none ≡ some x → Shows ts 1 a b x
@@ -61,7 +62,7 @@ module _ (ts : List ℕ) (k a b : ℕ) (x : Item) where
       go false e r = absurd (let z : _≡_ {A = ℕ} 0 1 = cc in omega arith)
 
   if-shows : condition a b ≡ some x → Shows ts 15 a b x
-  unfolding shown names nameAt described
+  unfolding shown kindNames otherNames namesOf nameAt described
   if-shows h = go (eqb a 0) (eqb a 1) refl refl h
     where
       go : (t u : Bool) → eqb a 0 ≡ t → eqb a 1 ≡ u → cond t (cond (eqb b 0) (some (ifTest always)) none) (cond u (some (ifTest (lines b))) none) ≡ some x → Shows ts 15 a b x
@@ -74,7 +75,7 @@ module _ (ts : List ℕ) (k a b : ℕ) (x : Item) where
 
   -- a record shows the item that it decodes to
   pub item-shows : itemOf ts k a b ≡ some x → Shows ts k a b x
-  unfolding itemOf shown names nameAt described
+  unfolding itemOf shown kindNames otherNames namesOf nameAt described
   item-shows h =
       choose 1 _ _ h text-shows λ h.
       choose 2 _ _ h (lone 2 newline refl refl) λ h.

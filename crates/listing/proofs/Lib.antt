@@ -3,8 +3,8 @@ mod Decoding
 mod Examples
 mod Head
 mod Items
+pub mod Listable
 pub mod Refused
-pub mod Told
 mod Whole
 pub mod Writes
 mod Writing

@@ -11,12 +11,12 @@ use lib.ListN.{length, getD, drop, length-append, length-drop}
 use lib.Seq.{getD-drop, drop-drop}
 use borrow.Author.Tests.{eqb-true, eqb-false}
 use Rattle.items.specs.Item.{Item}
-use Rattle.items.specs.Records.{Counts, itemOf, cons, decoded}
+use Rattle.items.specs.Records.{Counts, itemOf, cons, decoded, recordSize}
 use Rattle.items.specs.Lines.{recordLines}
 use Rattle.listing.specs.Listing.{headLine, listing}
 use Rattle.listing.specs.Writes.{Room}
 use Rattle.listing.specs.Shown.{Line, lineAt, linesFrom}
-use Rattle.listing.specs.Told.{itemsIn, Told}
+use Rattle.listing.specs.Listable.{itemsIn, Listable}
 use Rattle.listing.proofs.Head.{head-short}
 use Rattle.listing.proofs.Decoding.{Shows, item-shows}
 
@@ -52,7 +52,7 @@ pub record Ready (rs ts : List ℕ) (c : Counts) : Type 0 where
   pub room : Room (headLine c ++ linesFrom rs ts 0 (c .records)) 0
 
 module _ (rs ts : List ℕ) where
-  one-more : (i m k a b : ℕ) (ws : List ℕ) (x : Item) (xs : List Item) → Words rs (3 * i) k a b ws → Shows ts k a b x → Lists rs ts (suc i) m xs → Lists rs ts i (suc m) (x ∷ xs)
+  one-more : (i m k a b : ℕ) (ws : List ℕ) (x : Item) (xs : List Item) → Words rs (recordSize * i) k a b ws → Shows ts k a b x → Lists rs ts (suc i) m xs → Lists rs ts i (suc m) (x ∷ xs)
   unfolding lineAt linesFrom recordLines
   one-more i m k a b ws x xs w s l = record {
     lines = rw (w .kind, w .first, w .second, s .shows, l .lines);
@@ -63,7 +63,7 @@ module _ (rs ts : List ℕ) where
       go j u v true e = rw (eqb-true j i e) (record { inside = w .inside; known = rw (w .kind, w .first, w .second) (s .readable) })
       go j u v false e = let d : j ≡ i → ⊥ = eqb-false j i e in l .each j (omega arith) (omega arith)
 
-  lists : (m i : ℕ) (ws : List ℕ) (xs : List Item) → drop (3 * i) rs ≡ ws → decoded ws ts m ≡ some xs → Lists rs ts i m xs
+  lists : (m i : ℕ) (ws : List ℕ) (xs : List Item) → drop (recordSize * i) rs ≡ ws → decoded ws ts m ≡ some xs → Lists rs ts i m xs
   unfolding decoded linesFrom recordLines
   lists zero i ws xs e r = let n : [] ≡ xs = cc in rw (← n) (record { lines = refl; each = λ j u v. absurd (omega arith) })
   lists (suc m) i [] xs e r = absurd (let z : _≡_ {A = ℕ} 0 1 = cc in omega arith)
@@ -72,17 +72,17 @@ module _ (rs ts : List ℕ) where
   lists (suc m) i (k ∷ a ∷ b ∷ ws) xs e r = go (itemOf ts k a b) (decoded ws ts m) refl refl r (lists m (suc i) ws)
     where
       go : (o : Option Item) (p : Option (List Item)) → itemOf ts k a b ≡ o → decoded ws ts m ≡ p → cons o p ≡ some xs
-          → ((ys : List Item) → drop (3 * suc i) rs ≡ ws → decoded ws ts m ≡ some ys → Lists rs ts (suc i) m ys) → Lists rs ts i (suc m) xs
+          → ((ys : List Item) → drop (recordSize * suc i) rs ≡ ws → decoded ws ts m ≡ some ys → Lists rs ts (suc i) m ys) → Lists rs ts i (suc m) xs
       go none p f g r more = absurd (let z : _≡_ {A = ℕ} 0 1 = cc in omega arith)
       go (some x) none f g r more = absurd (let z : _≡_ {A = ℕ} 0 1 = cc in omega arith)
       go (some x) (some ys) f g r more =
           let n : x ∷ ys ≡ xs = cc in
-          let w = words-at rs ws (3 * i) k a b e in
-          let t : 3 * suc i ≡ 3 * i + 3 = omega arith in
+          let w = words-at rs ws (recordSize * i) k a b e in
+          let t : recordSize * suc i ≡ recordSize * i + recordSize = omega arith in
           let s = item-shows ts k a b x f in
           rw (← n) (one-more i m k a b ws x ys w s (more ys (rw t (w .rest)) g))
 
-  pub ready : (c : Counts) → Told rs ts c → c .records < 2 ^ 32 → c .texts < 2 ^ 32 → c .runs < 2 ^ 32 → c .marks < 2 ^ 32 → c .lines < 2 ^ 32 → Ready rs ts c
+  pub ready : (c : Counts) → Listable rs ts c → c .records < 2 ^ 32 → c .texts < 2 ^ 32 → c .runs < 2 ^ 32 → c .marks < 2 ^ 32 → c .lines < 2 ^ 32 → Ready rs ts c
   unfolding listing
   ready c t p q r s u =
       let xs = itemsIn rs ts (c .records) in

@@ -4,8 +4,7 @@ use mathlib.Core.List.{List, [], _∷_, _++_}
 use Prim.Native.Nat.{ℕ, suc, _+_, _-_, _<_, _≤_}
 use native.Mathlib.Omega.{arith}
 use native.Mathlib.Numerals.{add-one}
-use lib.ListN.{length, set, getD, drop, drop-of-length-le, length-append}
-use lib.Seq.{drop-cons}
+use lib.ListN.{length, set, length-append}
 use Rattle.items.specs.Machine.{store}
 use Rattle.listing.specs.Writes.{Page, page, Writes, Room}
 use Rattle.listing.specs.Shown.{lineAt, linesFrom}
@@ -15,6 +14,10 @@ use Rattle.listing.proofs.Writes.{blank, _▸_, by, room-first, room-as
 pub one-byte : (b : List ℕ) {b′ : List ℕ} (n x : ℕ) {r : ℕ} → b′ ≡ set b n x → r ≡ n + 1 → Writes (x ∷ []) (page b n) (page b′ r)
 unfolding store
 one-byte b n x e f = record { counted = f; stored = e }
+
+-- bytes are stored from a place on
+pub some-bytes : (b : List ℕ) {b′ : List ℕ} (n : ℕ) (s : List ℕ) {r : ℕ} → b′ ≡ store b n s → r ≡ n + length s → Writes s (page b n) (page b′ r)
+some-bytes b n s e f = record { counted = f; stored = e }
 
 -- What a loop keeps that writes us, where vs are still to be written: whoever writes them has written the whole.
 pub record Writing (us vs : List ℕ) (o a : Page) : Type 0 where
@@ -36,20 +39,6 @@ writing-all g e = g .rest (by e blank)
 -- what is still to be written has room
 pub room-left : {us vs : List ℕ} {o a : Page} → Writing us vs o a → Room us (o .place) → Room vs (a .place)
 room-left g r = record { fits = omega (arith, g .left, r .fits) }
-
--- ---- the bytes of a slice
-
-pub bytes-none : (s : List ℕ) (o : Page) → Writing s (drop 0 s) o o
-bytes-none s o = writing-none s o
-
-pub bytes-more : {s : List ℕ} {o a b : Page} {i : ℕ} → Writing s (drop i s) o a → i < length s → Writes (getD s i 0 ∷ []) a b → Writing s (drop (i + 1) s) o b
-bytes-more {s} {i = i} g h k = writing-more g (rw (add-one i) (drop-cons s i 0 h)) k
-
-pub bytes-all : {s : List ℕ} {o a : Page} {i : ℕ} → Writing s (drop i s) o a → length s ≤ i → Writes s o a
-bytes-all {s} g h = writing-all g (drop-of-length-le s h)
-
-pub bytes-room : {s : List ℕ} {o a : Page} {i : ℕ} → Writing s (drop i s) o a → i < length s → Room s (o .place) → Room (getD s i 0 ∷ []) (a .place)
-bytes-room {s} {i = i} g h r = room-first (drop (suc i) s) (room-as (drop-cons s i 0 h) (room-left g r))
 
 -- ---- the lines of records
 

@@ -1,6 +1,6 @@
--- Definitions that the contracts cite, and the laws that callers cite.
+-- Definitions that the contracts cite.
 pub mod Listing
 pub mod Examples
 pub mod Writes
-pub mod Told
+pub mod Listable
 pub mod Shown

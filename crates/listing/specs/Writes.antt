@@ -4,6 +4,7 @@ use mathlib.Core.List.{List}
 use Prim.Native.Nat.{ℕ, _+_, _<_, _^_}
 use lib.ListN.{length}
 use Rattle.items.specs.Machine.{store}
+use Rattle.text.specs.Lent.{Lent}
 
 -- A lent buffer, and the place of the next byte.
 pub record Page : Type 0 where
@@ -24,3 +25,7 @@ pub record Room (bs : List ℕ) (n : ℕ) : Type 0 where
   pub fits : n + length bs < 2 ^ 64
 
 -- ---- room for what is written in turn
+
+-- the contract of a function that is lent a buffer, writes bs from a place on and answers the next place
+abbrev pub WritesIn : Lent → ℕ → ℕ → List ℕ → Type 0
+WritesIn out at next bs = Writes bs (page (out .entry .now) at) (page (out .exit .now) next)

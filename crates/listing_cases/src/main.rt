@@ -1,7 +1,7 @@
 // Writes three listings: that of `[1]`, as the scope paper has it, one with every kind of record, and the beginning of the first in a short buffer.
 use items::Count;
 use libc::STDOUT_FILENO;
-ghost use Rattle.listing.specs.Told.{Told};
+ghost use Rattle.listing.specs.Listable.{Listable};
 
 // The records of `[1]`.
 const RECORDS: [u32; 84] = [

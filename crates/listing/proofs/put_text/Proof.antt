@@ -4,6 +4,8 @@ use Rattle.listing.proofs.Items.{text-part}
 use Rattle.listing.proofs.put_text.Statement.{statement}
 use Rattle.listing.proofs.put_text.Tie as tie
 use Rattle.listing.proofs.Writes.{_▸_, by, kept, room-first, _⟫_, room-as}
+use Rattle.items.specs.Lines.{kindNames}
+use Rattle.items.specs.Names.{namesOf}
 
 put-bytes-requires : tie.Need-put-bytes-requires
 unfolding storedText
@@ -21,7 +23,7 @@ returns c =
     c1 .put-field .ensures ▸ c2 .put-byte .ensures ▸ by (text-part (s .args .texts .now) (s .args .offset) (s .args .bytes)) (c3 .put-bytes .ensures)
 
 pub put-text-spec : {M : Type 1} → statement M
-unfolding storedText
+unfolding storedText kindNames namesOf
 put-text-spec =
     tie.close
     (tie.spec

@@ -4,7 +4,7 @@ use Rattle.text.specs.Basic.{sum}
 use Rattle.items.specs.Lines.{digits, decimal, described, recordLines}
 use Rattle.items.specs.Records.{bytes, decoded, itemOf}
 use Rattle.listing.specs.Examples.{oneItems}
-use Rattle.listing.proofs.Told.{told}
+use Rattle.listing.proofs.Listable.{listable}
 use Rattle.listing_cases.specs.Cases.{everyItems}
 use Rattle.listing_cases.proofs.main.Statement.{statement}
 use Rattle.listing_cases.proofs.main.Tie as tie
@@ -16,12 +16,12 @@ main-spec =
     (tie.spec
     (λ c. search needs)  -- slice-aggregate-print-listing
     (λ c. search needs)  -- slice-aggregate-print-listing-2
-    (λ c κs. told _ _ _ oneItems refl refl)  -- print-listing-requires
+    (λ c κs. listable _ _ _ oneItems refl refl)  -- print-listing-requires
     (λ c. search needs)  -- slice-aggregate-print-listing-3
     (λ c. search needs)  -- slice-aggregate-print-listing-4
-    (λ c κs. told _ _ _ everyItems refl refl)  -- print-listing-requires-2
+    (λ c κs. listable _ _ _ everyItems refl refl)  -- print-listing-requires-2
     (λ c. search needs)  -- slice-aggregate-print-beginning
     (λ c. search needs)  -- slice-aggregate-print-beginning-2
-    (λ c κs. told _ _ _ oneItems refl refl)  -- print-beginning-requires
+    (λ c κs. listable _ _ _ oneItems refl refl)  -- print-beginning-requires
     (λ c. search needs)  -- returns
     )

@@ -16,6 +16,6 @@ unfoldable pub itemsIn : List ℕ → List ℕ → ℕ → List Item
 itemsIn rs ts n = orNone (decoded rs ts n)
 
 -- The records are those of items, and the counts are theirs.
-pub record Told (rs ts : List ℕ) (c : Counts) : Type 0 where
+pub record Listable (rs ts : List ℕ) (c : Counts) : Type 0 where
   pub decodes : decoded rs ts (c .records) ≡ some (itemsIn rs ts (c .records))
   pub counts : c ≡ countsOf (itemsIn rs ts (c .records))
