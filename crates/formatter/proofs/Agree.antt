@@ -288,8 +288,8 @@ module _ (pr pr′ : ℕ → Print) (same : (n : ℕ) → Agree 0 (pr n) (pr′ 
   what-agree xs (each c front ended) = each-agree c front ended xs
   what-agree xs plus = part-agree none-agree (plusOf xs)
 
-  row-agree : (xs : List Part) (ps : List Piece) → Agree 0 (Print.row pr xs ps) (Plain.pieces pr′ xs ps)
-  unfolding Print.row Plain.pieces
+  row-agree : (xs : List Part) (ps : List Piece) → Agree 0 (Print.row pr xs ps) (Plain.plainRow pr′ xs ps)
+  unfolding Print.row Plain.plainRow
   row-agree xs [] = none-agree
   row-agree xs (p ∷ ps) = when-agree (asked xs p) (what-agree xs (p .what)) ⨾ row-agree xs ps
 
@@ -345,13 +345,13 @@ module _ (pr pr′ : ℕ → Print) (same : (n : ℕ) → Agree 0 (pr n) (pr′ 
   local-agree (Reading.read (c ∷ []) e) = comments-agree aboveItem (c .before) ⨾ lit-agree "local " ⨾ same (c .value .number)
   local-agree (Reading.read (c ∷ d ∷ cs) e) = binds-agree (c ∷ d ∷ cs) e
 
-  values-agree : (cs : List Reading.Child) → Agree 0 (Print.values pr cs) (Plain.bare pr′ cs)
-  unfolding Print.values Plain.bare
+  values-agree : (cs : List Reading.Child) → Agree 0 (Print.values pr cs) (Plain.alone pr′ cs)
+  unfolding Print.values Plain.alone
   values-agree [] = none-agree
   values-agree (c ∷ cs) = same (c .value .number) ⨾ values-agree cs
 
-  valuesOf-agree : (r : Reading.Reading) → Agree 0 (Print.valuesOf pr r) (Plain.bareOf pr′ r)
-  unfolding Print.valuesOf Plain.bareOf
+  valuesOf-agree : (r : Reading.Reading) → Agree 0 (Print.valuesOf pr r) (Plain.aloneOf pr′ r)
+  unfolding Print.valuesOf Plain.aloneOf
   valuesOf-agree (Reading.foreign n) = stopped-agree n
   valuesOf-agree (Reading.read cs e) = values-agree cs
 

@@ -29,20 +29,15 @@ use Rattle.listing.specs.Listable.{Listable, itemsIn}
 use Rattle.listing.proofs.Listable.{items-are, listable as tell}
 use Rattle.printer.specs.Print.{sourceFile}
 use Rattle.formatter.specs.declared.Answer as code
-use Rattle.formatter.specs.declared.refusal.Refusal as code-refusal
-use Rattle.formatter.specs.declared.refusal.Numbered.{Numbered}
+use Rattle.numbers.specs.declared.refusal.Refusal as code-refusal
+use Rattle.numbers.specs.Refusal.{numberOf}
 use Rattle.formatter.specs.declared.Answer.the-variants.{Refused, Printed}
-use Rattle.formatter.specs.Told.{numberOf, elementOf, told}
+use Rattle.formatter.specs.Reply.{reply}
 use Rattle.formatter.proofs.Fitted.{items-fit}
 use Rattle.formatter.specs.Answer.{Verdict, turnedAway, printed, fromPrinting, fromTests, verdict, withRoom, withListing, ruling, Answer, refused, done, answerOf, answer, bufferOf, recordsAfter, textsAfter, listingAfter}
 use Rattle.formatter.specs.Answered.{Answered}
 use Rattle.formatter.proofs.Answering.{passed, answered}
 use Rattle.formatter.specs.Calls.{Judged, tally, roomFor}
-
--- ---- refusals in numbers
-
-pub by-case : (n : Numbered) (r f : code-refusal.Refusal) → r ≡ f → n ≡ record { number = numberOf f; element = elementOf f } → n ≡ record { number = numberOf r; element = elementOf r }
-by-case n r f h k = rw h k
 
 -- ---- the tests 1 to 9
 
@@ -250,35 +245,35 @@ module _ (image rs ts : List ℕ) where
   stated-list ls (h, k) = let (a, (r, (t, d))) = stated (some ls) h in (a, (r, (t, (k, d))))
 
   -- a tree that was turned away
-  module _ (ls : Option (List ℕ)) {table : List ℕ} {a : code.Answer} {f : code-refusal.Refusal} (i : a ≡ Refused f) (j : Judged image (length rs) (length ts) table (told a)) where
-    gone : Answers image rs ts ls rs ts (refused (numberOf f) (elementOf f))
+  module _ (ls : Option (List ℕ)) {table : List ℕ} {a : code.Answer} {f : code-refusal.Refusal} (i : a ≡ Refused f) (j : Judged image (length rs) (length ts) table (reply a)) where
+    gone : Answers image rs ts ls rs ts (refused (numberOf (f .reason)) (f .element .0))
     gone = turned ls _ _ (rw i at j)
 
-    pub refuses : Answers image rs ts ls rs ts (told a)
+    pub refuses : Answers image rs ts ls rs ts (reply a)
     refuses = rw i gone
 
   pub refuses-list :
-      (ls : List ℕ) {table : List ℕ} {a : code.Answer} {f : code-refusal.Refusal} → a ≡ Refused f → Judged image (length rs) (length ts) table (told a)
-      → Answers image rs ts (some ls) rs ts (refused (numberOf f) (elementOf f)) × (ls ≡ listingAfter image rs ts ls)
+      (ls : List ℕ) {table : List ℕ} {a : code.Answer} {f : code-refusal.Refusal} → a ≡ Refused f → Judged image (length rs) (length ts) table (reply a)
+      → Answers image rs ts (some ls) rs ts (refused (numberOf (f .reason)) (f .element .0)) × (ls ≡ listingAfter image rs ts ls)
   unfolding listingAfter bufferOf ruling withListing
-  refuses-list ls {f = f} i j = (gone (some ls) i j, rw (judged-refused none room (numberOf f) (elementOf f) (rw i at j .answers)))
+  refuses-list ls {f = f} i j = (gone (some ls) i j, rw (judged-refused none room (numberOf (f .reason)) (f .element .0) (rw i at j .answers)))
 
   -- one that is printed
-  module _ {table : List ℕ} {a : code.Answer} {c : Counts} (i : a ≡ Printed c) (j : Judged image (length rs) (length ts) table (told a)) where
+  module _ {table : List ℕ} {a : code.Answer} {c : Counts} (i : a ≡ Printed c) (j : Judged image (length rs) (length ts) table (reply a)) where
     items : (xs : List Item) × (room ≡ printed xs) × (c ≡ countsOf xs)
     items = judged-done none room c none (rw i at (j .answers))
 
     -- what was judged to be printed, printed from the start
     module _ {rs′ ts′ : List ℕ} {p q : Run} (s : p ≡ Done noCounts) (h : Prints (sourceFile (treeOf image)) (held rs ts p) (held rs′ ts′ q)) where
-      pub prints : Answers image rs ts none rs′ ts′ (told a)
+      pub prints : Answers image rs ts none rs′ ts′ (reply a)
       unfolding answer recordsAfter textsAfter bufferOf ruling withListing
       prints = let (xs, v, e) = items in go xs v
         where
-          go : (xs : List Item) → room ≡ printed xs → Answers image rs ts none rs′ ts′ (told a)
+          go : (xs : List Item) → room ≡ printed xs → Answers image rs ts none rs′ ts′ (reply a)
           go xs v = let w = wrote xs rs′ ts′ p q v s h in record { answers = j .answers; records = rw v (w .records); texts = rw v (w .texts) }
 
       -- the records and texts are those of the items that are listed
-      pub tells : Told rs′ ts′ c
+      pub tells : Listable rs′ ts′ c
       tells = let (xs, v, e) = items in tell rs′ ts′ c xs (wrote-decodes xs rs′ ts′ c (wrote xs rs′ ts′ p q v s h) e) e
 
       -- a listing with room
@@ -306,5 +301,5 @@ module _ (image rs ts : List ℕ) where
             (record { answers = rw (v, b); records = rw (v, b); texts = rw (v, b) }, rw (v, b))
 
 -- what is judged to be printed has its index
-pub to-print : {image table : List ℕ} {w r : ℕ} {a : code.Answer} {c : Counts} → a ≡ Printed c → Judged image w r table (told a) → Indexed image table
+pub to-print : {image table : List ℕ} {w r : ℕ} {a : code.Answer} {c : Counts} → a ≡ Printed c → Judged image w r table (reply a) → Indexed image table
 to-print i j = (rw i at j) .indexed _ refl

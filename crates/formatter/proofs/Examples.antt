@@ -11,14 +11,14 @@ use borrow.Author.Tests.{eqb-true}
 use Rattle.text.specs.Basic.{any, all, sum, dropWhile, dropEnd, sameBytes, startsWith, count, All, ∅, _▹_}
 use Rattle.text.specs.Text.{follows, afterByte, validFrom, trimEnd, trim, lines as textLines, padding, chars, lead, isWhite, whiteSpace, utf8, isPad}
 use Rattle.text.proofs.Lists.{and-true}
-use Rattle.items.specs.Item.{Item, none as nothing, say, says, lit, when, withNumber, openRun}
+use Rattle.items.specs.Item.{Item, none as nothing, say, says, lit, when, withNumber, openRun, _⨟_}
 use Rattle.items.specs.Records.{words, bytes, decoded}
 use Rattle.items.proofs.Decoding.{decoded-is, words-length}
 use Rattle.comments.specs.Comments
 use Rattle.comments.specs.Comments.{multiLine, singleLine, blockOf, blockLines, immediate, common, commonPadding, unpadded, tabbed, oneLine, onOneLine, manyLines}
 use Rattle.tree.specs.Tree.{le16, le32, countN, countB, textsOf, elements, elementsOf, forest, texts, parts}
 use Rattle.tree.specs.Class.{kinds, oneOf, nthOf}
-use Rattle.tree.specs.Refusal.{wrongLength, outOfLimits, firstWhere, unknownKind, misplaced, misplacedAfter, firstMisplaced, nodeWithText, wrongSizes, notUtf8, stringBlock, misformed, firstNameless, tests, firstOf, refusal}
+use Rattle.tree.specs.Refusal.{wrongLength, outOfLimits, firstWhere, unknownKind, misplaced, misplacedAfter, firstMisplaced, nodeWithText, wrongSizes, notUtf8, stringBlock, misformed, firstNameless, tests, firstRefusal, refusal}
 use Rattle.children.specs.Reading.{between, pass, step, behind, upTo, newlinesBefore, newlinesBack, strict, triviaBefore, triviaAfter}
 use Rattle.children.specs.Comments.{comments}
 use Rattle.printer.specs.Layout.{rows, pick}
@@ -28,7 +28,7 @@ use Rattle.formatter.specs.Answer.{Verdict, turnedAway, printed, fromPri
 use Rattle.formatter.specs.Examples.{Example, result, sameItems, gives, passes, examples, comment}
 
 computed : all passes examples ≡ true
-unfolding examples all sameBytes words bytes any dropWhile dropEnd startsWith count sum flatten follows afterByte validFrom trimEnd trim textLines padding chars lead isWhite whiteSpace utf8 isPad _⨟_ nothing say says lit when withNumber openRun Comments.comment multiLine singleLine blockOf blockLines immediate common commonPadding unpadded tabbed oneLine onOneLine manyLines le16 le32 countN countB textsOf elements elementsOf forest texts parts kinds oneOf nthOf between pass step behind upTo newlinesBefore newlinesBack strict triviaBefore triviaAfter comments rows pick comma testOf bracketed shared indented partOr what row withComments children list values valuesOf expression element prints sourceOf source sourceFile wrongLength outOfLimits firstWhere unknownKind misplaced misplacedAfter firstMisplaced nodeWithText wrongSizes notUtf8 stringBlock misformed firstNameless tests firstOf refusal fromPrinting fromTests verdict
+unfolding examples all sameBytes words bytes any dropWhile dropEnd startsWith count sum flatten follows afterByte validFrom trimEnd trim textLines padding chars lead isWhite whiteSpace utf8 isPad _⨟_ nothing say says lit when withNumber openRun Comments.comment multiLine singleLine blockOf blockLines immediate common commonPadding unpadded tabbed oneLine onOneLine manyLines le16 le32 countN countB textsOf elements elementsOf forest texts parts kinds oneOf nthOf between pass step behind upTo newlinesBefore newlinesBack strict triviaBefore triviaAfter comments rows pick comma testOf bracketed shared indented partOr what row withComments children list values valuesOf expression element prints sourceOf source sourceFile wrongLength outOfLimits firstWhere unknownKind misplaced misplacedAfter firstMisplaced nodeWithText wrongSizes notUtf8 stringBlock misformed firstNameless tests firstRefusal refusal fromPrinting fromTests verdict
 computed = refl
 
 same-true : (xs ys : List ℕ) → sameBytes xs ys ≡ true → xs ≡ ys

@@ -10,13 +10,13 @@ use Rattle.listing.specs.Listing.{listing, refusedLine}
 use Rattle.listing.proofs.Refused.{refused-short}
 use Rattle.listing.specs.Writes.{page, Writes}
 use Rattle.listing.proofs.Writes.{kept}
-use Rattle.formatter.specs.declared.refusal.Refusal.{Refusal}
-use Rattle.formatter.specs.declared.refusal.Numbered.{Numbered}
+use Rattle.numbers.specs.declared.refusal.Refusal.{Refusal}
 use Rattle.formatter.specs.declared.ListAnswer.{ListAnswer}
 use Rattle.formatter.specs.declared.ListAnswer.the-variants.{Listed, Refused}
 use Rattle.items.specs.Records.{Counts, recordSize}
 use Rattle.formatter.specs.Answer.{Verdict, turnedAway, printed, verdict, withRoom, withListing, ruling, answerOf, answer, bufferOf, listingAfter}
-use Rattle.formatter.specs.Told.{numberOf, elementOf, toldList}
+use Rattle.numbers.specs.Refusal.{numberOf}
+use Rattle.formatter.specs.Reply.{replyListed}
 use Rattle.formatter.specs.Program.{blank, judged, printedOf, response, numberIn, Responds}
 use lib.Seq.{take-at}
 use Rattle.formatter.specs.declared.program.Response.{Response}
@@ -35,12 +35,12 @@ module _ (image rs ts ls : List ℕ) (a : length rs ≡ recordSize * 5000) (b : 
       go (turnedAway n e) = refl
       go (printed xs) = rw (blank-long, c)
 
-  pub responds-listed : {out : List ℕ} {t : ListAnswer} {d : Counts} {n : ℕ} → t ≡ Listed d n → toldList t ≡ answer image rs ts (some ls) → out ≡ listingAfter image rs ts ls
+  pub responds-listed : {out : List ℕ} {t : ListAnswer} {d : Counts} {n : ℕ} → t ≡ Listed d n → replyListed t ≡ answer image rs ts (some ls) → out ≡ listingAfter image rs ts ls
       → Responds image ls out (record { number = 0; bytes = n })
   unfolding answer answerOf listingAfter bufferOf response printedOf numberIn
-  responds-listed {out} {t} {d} {n} i j k = go (ruling image rs ts (some ls)) as-judged (ap toldList (sym i) ∙ j) k
+  responds-listed {out} {t} {d} {n} i j k = go (ruling image rs ts (some ls)) as-judged (ap replyListed (sym i) ∙ j) k
     where
-      go : (v : Verdict) → judged image ≡ v → toldList (Listed d n) ≡ answerOf (some ls) v → out ≡ bufferOf listing v ls → Responds image ls out (record { number = 0; bytes = n })
+      go : (v : Verdict) → judged image ≡ v → replyListed (Listed d n) ≡ answerOf (some ls) v → out ≡ bufferOf listing v ls → Responds image ls out (record { number = 0; bytes = n })
       go (turnedAway m e) q h w = absurd (let z : _≡_ {A = ℕ} 0 1 = cc in omega arith)
       go (printed xs) q h w =
           let l : n ≡ length (listing xs) = cc in
@@ -51,17 +51,17 @@ module _ (image rs ts ls : List ℕ) (a : length rs ≡ recordSize * 5000) (b : 
             inside = rw (w, length-append) (omega arith);
           }
 
-  pub responds-refused : {mid out : List ℕ} {t : ListAnswer} {f : Refusal} {n : Numbered} {m : ℕ} → t ≡ Refused f → toldList t ≡ answer image rs ts (some ls) → mid ≡ listingAfter image rs ts ls
-      → n ≡ record { number = numberOf f; element = elementOf f } → n .number < 2 ^ 64 → n .element < 2 ^ 64 → Writes (refusedLine (n .number) (n .element)) (page mid 0) (page out m)
-      → Responds image ls out (record { number = n .number; bytes = m })
+  pub responds-refused : {mid out : List ℕ} {t : ListAnswer} {f : Refusal} {n m : ℕ} → t ≡ Refused f → replyListed t ≡ answer image rs ts (some ls) → mid ≡ listingAfter image rs ts ls
+      → n ≡ numberOf (f .reason) → n < 2 ^ 64 → f .element .0 < 2 ^ 64 → Writes (refusedLine n (f .element .0)) (page mid 0) (page out m)
+      → Responds image ls out (record { number = n; bytes = m })
   unfolding answer answerOf listingAfter bufferOf response printedOf numberIn
-  responds-refused {mid} {out} {t} {f} {n} {m} i j k o p q w = go (ruling image rs ts (some ls)) as-judged (ap toldList (sym i) ∙ j) k
+  responds-refused {mid} {out} {t} {f} {n} {m} i j k o p q w = go (ruling image rs ts (some ls)) as-judged (ap replyListed (sym i) ∙ j) k
     where
-      go : (v : Verdict) → judged image ≡ v → toldList (Refused f) ≡ answerOf (some ls) v → mid ≡ bufferOf listing v ls → Responds image ls out (record { number = n .number; bytes = m })
+      go : (v : Verdict) → judged image ≡ v → replyListed (Refused f) ≡ answerOf (some ls) v → mid ≡ bufferOf listing v ls → Responds image ls out (record { number = n; bytes = m })
       go (turnedAway x e) g h z =
-          let s : n .number ≡ x = cc in
-          let u : n .element ≡ e = cc in
-          let y = refused-short (n .number) (n .element) p q in
+          let s : n ≡ x = cc in
+          let u : f .element .0 ≡ e = cc in
+          let y = refused-short n (f .element .0) p q in
           record {
             number = rw g s;
             counted = rw (g, ← s, ← u) (omega (arith, w .counted));

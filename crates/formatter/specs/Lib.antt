@@ -2,7 +2,7 @@
 pub mod PutBack
 pub mod Plain
 pub mod Answer
-pub mod Told
+pub mod Reply
 pub mod Answered
 pub mod Calls
 pub mod Program

@@ -49,9 +49,9 @@ module _ (pr : ℕ → Print) where
   piece ps plus = shown none (plusOf ps)
 
   -- the pieces of a row that are asked for
-  unfoldable pub pieces : List Part → List Piece → Print
-  pieces ps [] = none
-  pieces ps (p ∷ rest) = when (asked ps p) (piece ps (p .what)) ⨟ pieces ps rest
+  unfoldable pub plainRow : List Part → List Piece → Print
+  plainRow ps [] = none
+  plainRow ps (p ∷ rest) = when (asked ps p) (piece ps (p .what)) ⨟ plainRow ps rest
 
   -- children with their comments, and what follows each: on its line, and behind that; both know whether more children follow
   unfoldable pub items : (Bool → Print) → (Bool → Print) → List Child → Print
@@ -109,21 +109,21 @@ module _ (pr : ℕ → Print) where
   localOf (read (c ∷ d ∷ cs) e) = binds (c ∷ d ∷ cs) e
 
   -- children without their comments: 'Comments around a statement or suffix of an Expr are read and not printed'
-  unfoldable pub bare : List Child → Print
-  bare [] = none
-  bare (c ∷ cs) = pr (c .value .number) ⨟ bare cs
+  unfoldable pub alone : List Child → Print
+  alone [] = none
+  alone (c ∷ cs) = pr (c .value .number) ⨟ alone cs
 
   -- the children of a reading without their comments
-  unfoldable pub bareOf : Reading → Print
-  bareOf (foreign n) = stopped n
-  bareOf (read cs e) = bare cs
+  unfoldable pub aloneOf : Reading → Print
+  aloneOf (foreign n) = stopped n
+  aloneOf (read cs e) = alone cs
 
   -- an expression: its statements, its base, its suffixes
   abbrev pub expression : List Part → Option Part → Print
   expression ps base =
-      bareOf (between Class.Stmt nothing base nothing ps)
+      aloneOf (between Class.Stmt nothing base nothing ps)
       ⨟ shown (lit "/*missing ExprBase*/") base
-      ⨟ bareOf (between Class.Suffix base nothing nothing ps)
+      ⨟ aloneOf (between Class.Suffix base nothing nothing ps)
 
   -- an element, by its kind; 'Visibility prints all its token texts joined'
   unfoldable pub node : ℕ → ℕ → List ℕ → List ℕ → List Part → Print
@@ -136,7 +136,7 @@ module _ (pr : ℕ → Print) where
       (cond (eqb k 26) (comprehension n ps (first Class.CompSpec ps))
       (cond (eqb k 27) (list "{ }" "{" "}" (enclosed Class.Member Class.LBrace Class.RBrace ps))
       (cond (eqb k 47) (arguments (enclosed Class.Arg Class.LParen Class.RParen ps))
-      (pieces ps (layout k)))))))))
+      (plainRow ps (layout k)))))))))
 
 -- what the element with number n prints, among the elements at the top of a forest
 unfoldable pub nodes : Forest → ℕ → Print

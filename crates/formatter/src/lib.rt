@@ -1,27 +1,27 @@
 // The calls from a tree image to print items and to their listing.
 pub mod program;
-pub mod refusal;
 
 use items::Count;
 use items::Printed;
+use items::RECORD;
 use listing::listing_length;
 use listing::write_listing;
+use numbers::refusal::Reason;
+use numbers::refusal::Refusal;
+use numbers::refusal::whole;
 use printer::print_source;
-use refusal::Refusal;
 use tree::Tested;
+use tree::access::ENTRY;
 ghost use mathlib.Core.Path.{_≡_};
-ghost use mathlib.Core.Option.{Option, none, some};
-ghost use Prim.Native.Nat.{ℕ, _≤_};
+ghost use mathlib.Core.Option.{none};
+ghost use Prim.Native.Nat.{_≤_};
 ghost use lib.ListN.{length};
-ghost use Rattle.items.specs.Records.{Counts};
 ghost use Rattle.tree.specs.Tree.{treeOf};
 ghost use Rattle.tree.specs.Refusal.{refusal};
-ghost use Rattle.tree.specs.Index.{Indexed};
+ghost use Rattle.tree.specs.Index.{Indexed, largestIndex};
 ghost use Rattle.printer.specs.Print.{sourceFile};
-ghost use Rattle.formatter.specs.Answer.{done, answer, recordsAfter, textsAfter, listingAfter};
-ghost use Rattle.formatter.specs.Answered.{Answered};
-ghost use Rattle.formatter.specs.Told.{told, toldList};
-ghost use Rattle.formatter.specs.Calls.{Judged, tally, roomFor};
+ghost use Rattle.formatter.specs.Reply.{reply, replyListed};
+ghost use Rattle.formatter.specs.Calls.{answerIn, recordsIn, textsIn, listingIn, listed, AnsweredIn, Judged, tally, roomFor};
 
 // Why a tree was turned away, or the counts of what was printed.
 pub enum Answer {
@@ -35,18 +35,15 @@ pub enum ListAnswer {
     Listed { counts: Count, bytes: usize },
 }
 
-// Words of a record.
-const RECORD: usize = 3;
-
-// Numbers of the index of the largest tree: three for each of 4,096 elements, and three for the end.
-const TABLE: usize = 3 * 4_096 + 3;
+// Numbers of the index of the largest tree: an entry for each of 4,096 elements, and one for the end.
+const TABLE: usize = ENTRY * 4_096 + ENTRY;
 
 // Prints the source file of a tree image into the lent buffers, or says why not and leaves them as they are.
 pub fn print_items(image: &[u8], records: &mut [u32], texts: &mut [u8]) -> Answer
-    ensures { λ r. ⌜ told r ≡ answer (now (image .entry)) (now (records .entry)) (now (texts .entry)) none ⌝ }
-    ensures { λ _. ⌜ now (records .exit) ≡ recordsAfter (now (image .entry)) (now (records .entry)) (now (texts .entry)) none ⌝ }
-    ensures { λ _. ⌜ now (texts .exit) ≡ textsAfter (now (image .entry)) (now (records .entry)) (now (texts .entry)) none ⌝ }
-    ensures { λ r. ⌜ ((c : Counts) (n : Option ℕ) → told r ≡ done c n → Answered (now (image .entry)) (now (records .exit)) (now (texts .exit)) c) ⌝ }
+    ensures { λ r. ⌜ reply r ≡ answerIn image records texts none ⌝ }
+    ensures { λ _. ⌜ now (records .exit) ≡ recordsIn image records texts none ⌝ }
+    ensures { λ _. ⌜ now (texts .exit) ≡ textsIn image records texts none ⌝ }
+    ensures { λ r. ⌜ AnsweredIn image records texts (reply r) ⌝ }
 {
     let mut table = [0u32; TABLE];
     let judged = judge(image, &mut table, records.len(), texts.len());
@@ -65,11 +62,11 @@ pub fn list_items(
     texts: &mut [u8],
     listing: &mut [u8],
 ) -> ListAnswer
-    ensures { λ r. ⌜ toldList r ≡ answer (now (image .entry)) (now (records .entry)) (now (texts .entry)) (some (now (listing .entry))) ⌝ }
-    ensures { λ _. ⌜ now (records .exit) ≡ recordsAfter (now (image .entry)) (now (records .entry)) (now (texts .entry)) (some (now (listing .entry))) ⌝ }
-    ensures { λ _. ⌜ now (texts .exit) ≡ textsAfter (now (image .entry)) (now (records .entry)) (now (texts .entry)) (some (now (listing .entry))) ⌝ }
-    ensures { λ _. ⌜ now (listing .exit) ≡ listingAfter (now (image .entry)) (now (records .entry)) (now (texts .entry)) (now (listing .entry)) ⌝ }
-    ensures { λ r. ⌜ ((c : Counts) (n : Option ℕ) → toldList r ≡ done c n → Answered (now (image .entry)) (now (records .exit)) (now (texts .exit)) c) ⌝ }
+    ensures { λ r. ⌜ replyListed r ≡ answerIn image records texts (listed listing) ⌝ }
+    ensures { λ _. ⌜ now (records .exit) ≡ recordsIn image records texts (listed listing) ⌝ }
+    ensures { λ _. ⌜ now (texts .exit) ≡ textsIn image records texts (listed listing) ⌝ }
+    ensures { λ _. ⌜ now (listing .exit) ≡ listingIn image records texts listing ⌝ }
+    ensures { λ r. ⌜ AnsweredIn image records texts (replyListed r) ⌝ }
 {
     let mut table = [0u32; TABLE];
     let judged = judge(image, &mut table, records.len(), texts.len());
@@ -78,7 +75,7 @@ pub fn list_items(
         Answer::Printed(c) => {
             let bytes = listing_length(c);
             if listing.len() < bytes {
-                return ListAnswer::Refused(Refusal::ListingTooShort);
+                return ListAnswer::Refused(whole(Reason::ListingTooShort));
             }
             print_source(records, texts, image, &table, items::start());
             write_listing(records, texts, c, listing);
@@ -89,20 +86,12 @@ pub fn list_items(
 
 // What buffers of so many words and bytes let the tests 1 to 12 answer. The index of a tree that passes them is left in the table.
 fn judge(image: &[u8], table: &mut [u32], words: usize, room: usize) -> Answer
-    requires { ⌜ 12_291 ≤ length (now table) ⌝ }
-    ensures { λ r. ⌜ Judged (now (image .entry)) words room (now (table .exit)) (told r) ⌝ }
+    requires { ⌜ largestIndex ≤ length (now table) ⌝ }
+    ensures { λ r. ⌜ Judged (now (image .entry)) words room (now (table .exit)) (reply r) ⌝ }
 {
     let t = tree::refusal(image);
     match t {
-        Tested::WrongLength => Answer::Refused(Refusal::WrongLength),
-        Tested::OutOfLimits => Answer::Refused(Refusal::OutOfLimits),
-        Tested::UnknownKind(e) => Answer::Refused(Refusal::UnknownKind(e)),
-        Tested::Misplaced(e) => Answer::Refused(Refusal::Misplaced(e)),
-        Tested::WrongSize(e) => Answer::Refused(Refusal::WrongSize(e)),
-        Tested::NotUtf8(e) => Answer::Refused(Refusal::NotUtf8(e)),
-        Tested::StringBlock(e) => Answer::Refused(Refusal::StringBlock(e)),
-        Tested::Misformed(e) => Answer::Refused(Refusal::Misformed(e)),
-        Tested::Nameless(e) => Answer::Refused(Refusal::Nameless(e)),
+        Tested::Refused(r) => Answer::Refused(r),
         Tested::Accepted {
             elements: _,
             bytes: _,
@@ -113,16 +102,19 @@ fn judge(image: &[u8], table: &mut [u32], words: usize, room: usize) -> Answer
 // The same of an image that passed the tests 1 to 9.
 fn judge_accepted(image: &[u8], table: &mut [u32], words: usize, room: usize) -> Answer
     requires { ⌜ refusal (now image) ≡ none ⌝ }
-    requires { ⌜ 12_291 ≤ length (now table) ⌝ }
-    ensures { λ r. ⌜ Judged (now (image .entry)) words room (now (table .exit)) (told r) ⌝ }
+    requires { ⌜ largestIndex ≤ length (now table) ⌝ }
+    ensures { λ r. ⌜ Judged (now (image .entry)) words room (now (table .exit)) (reply r) ⌝ }
 {
     tree::index::index(image, table);
     let p = count_items(image, table);
     match p {
         Printed::Done(c) => fit(c, words, room),
-        Printed::Stopped(e) => Answer::Refused(Refusal::Stopped(e)),
+        Printed::Stopped(e) => Answer::Refused(Refusal {
+            reason: Reason::Stopped,
+            element: e,
+        }),
         // The counts of a tree that passed the tests always fit: no answer comes from here.
-        Printed::Full => Answer::Refused(Refusal::RecordsTooShort),
+        Printed::Full => Answer::Refused(whole(Reason::RecordsTooShort)),
     }
 }
 
@@ -138,13 +130,13 @@ fn count_items(image: &[u8], index: &[u32]) -> Printed
 
 // Whether buffers of so many words and bytes have room for what was counted.
 fn fit(c: Count, words: usize, room: usize) -> Answer
-    ensures { λ r. ⌜ told r ≡ roomFor c words room ⌝ }
+    ensures { λ r. ⌜ reply r ≡ roomFor c words room ⌝ }
 {
     if words < RECORD * (c.records as usize) {
-        return Answer::Refused(Refusal::RecordsTooShort);
+        return Answer::Refused(whole(Reason::RecordsTooShort));
     }
     if room < c.texts as usize {
-        return Answer::Refused(Refusal::TextsTooShort);
+        return Answer::Refused(whole(Reason::TextsTooShort));
     }
     Answer::Printed(c)
 }

@@ -1,12 +1,13 @@
 // What the program of document 01 prints of a tree image.
 use crate::ListAnswer;
 use crate::list_items;
-use crate::refusal::number_of;
+use items::RECORD;
 use listing::write_refused;
+use numbers::refusal::number_of;
 ghost use Rattle.formatter.specs.Program.{Responds};
 
 // Words of 5,000 records.
-const WORDS: usize = 3 * 5_000;
+const WORDS: usize = RECORD * 5_000;
 
 const TEXT_BYTES: usize = 32_000;
 
@@ -27,12 +28,10 @@ pub fn respond(image: &[u8], out: &mut [u8; LISTING_BYTES]) -> Response
     let a = list_items(image, &mut records, &mut texts, out);
     match a {
         ListAnswer::Refused(r) => {
-            let n = number_of(r);
-            let bytes = write_refused(n.number, n.element, out);
-            Response {
-                number: n.number,
-                bytes,
-            }
+            let reason = r.reason;
+            let number = number_of(reason);
+            let bytes = write_refused(number, r.element.0, out);
+            Response { number, bytes }
         }
         ListAnswer::Listed { counts: _, bytes } => Response { number: 0, bytes },
     }

@@ -15,6 +15,7 @@ judge-accepted-spec =
     (λ c κs. search needs)  -- fit-requires
     (λ c. search needs)  -- enum-known-p-2
     (λ c. search needs)  -- enum-told
+    (λ c κs. search needs)  -- whole-requires
     (λ c. search needs)  -- same-length
     (λ c. search fits)  -- returns
     (λ c. search needs)  -- same-length-2

@@ -26,7 +26,8 @@ list-items-spec =
     (λ c. search needs)  -- enum-known-judged
     (λ c. search needs)  -- enum-known-judged-2
     (λ c κs. search needs)  -- listing-length-requires
-    (λ c. let m = c .before .before .before in stated-list _ _ _ _ (listing-short _ _ _ (m .judged2 .given .1) (m .before .before .before .judge .ensures) _ (c .before .listing-length .ensures) (c .if1 .taken)))  -- returns
+    (λ c κs. search needs)  -- whole-requires
+    (λ c. let d = c .before in let m = d .before .before .before in rw (c .whole .ensures) (stated-list _ _ _ _ (listing-short _ _ _ (m .judged2 .given .1) (m .before .before .before .judge .ensures) _ (d .before .listing-length .ensures) (d .if1 .taken))))  -- returns
     (λ c. search needs)  -- slice-aggregate-print-source
     (λ c κs. search needs)  -- start-requires
     (λ c κs. let m = c .before .before .before .before .before .before .before in to-print (m .judged2 .given .1) (m .before .before .before .judge .ensures))  -- print-source-requires
