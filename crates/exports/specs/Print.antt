@@ -28,6 +28,6 @@ valuesListed (done c n) = c .records ∷ c .texts ∷ c .runs ∷ c .marks ∷ o
 
 -- A report has the number and the values of an answer.
 pub record Reports (r : Report) (a : Answer) : Type 0 where
-  pub numbered : r .number ≡ number a
+  pub answered : r .number ≡ number a
   pub valued : (r .counts .records ∷ r .counts .texts ∷ r .counts .runs ∷ r .counts .marks ∷ r .element ∷ []) ≡ values a
   pub listed : (r .counts .records ∷ r .counts .texts ∷ r .counts .runs ∷ r .counts .marks ∷ r .bytes ∷ r .element ∷ []) ≡ valuesListed a

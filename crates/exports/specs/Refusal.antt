@@ -8,11 +8,11 @@ number (refused r) = r .number
 number (passed n b) = 0
 
 -- its element, or N of an image that passed
-unfoldable pub first : Answer → ℕ
-first (refused r) = r .element
-first (passed n b) = n
+unfoldable pub firstValue : Answer → ℕ
+firstValue (refused r) = r .element
+firstValue (passed n b) = n
 
 -- B of an image that passed
-unfoldable pub second : Answer → ℕ
-second (refused r) = 0
-second (passed n b) = b
+unfoldable pub secondValue : Answer → ℕ
+secondValue (refused r) = 0
+secondValue (passed n b) = b

@@ -3,6 +3,7 @@ pub mod print;
 
 use comments::CommentLocation;
 use items::Printed;
+use numbers::refusal::number_of;
 use tree::Tested;
 ghost use mathlib.Core.Path.{_≡_};
 ghost use Rattle.items.specs.Item.{says};
@@ -11,8 +12,8 @@ ghost use Rattle.comments.specs.Place.{place};
 ghost use mathlib.Core.List.{[], _∷_};
 ghost use lib.Seq.{sets};
 ghost use Rattle.tree.specs.Answer.{said, answer};
-ghost use Rattle.exports.specs.Comment.{location, code, told, Printing};
-ghost use Rattle.exports.specs.Refusal.{number, first, second};
+ghost use Rattle.exports.specs.Comment.{location, code, countsAfter, PrintingIn};
+ghost use Rattle.exports.specs.Refusal.{number, firstValue, secondValue};
 
 // The numbers of the places; any other number is the last of them, after all items.
 const ABOVE_ITEM: u32 = 0;
@@ -24,7 +25,8 @@ const DONE: u32 = 0;
 
 const STOPPED: u32 = 10;
 
-const FULL: u32 = 14;
+// A count no longer fits; no refusal has this number.
+const FULL: u32 = 255;
 
 // The place with a number.
 fn location_of(n: u32) -> CommentLocation
@@ -40,7 +42,7 @@ fn location_of(n: u32) -> CommentLocation
 // Writes the four counts of what was printed, and gives the answer.
 fn tell(counts: &mut [u32; 4], p: Printed) -> u32
     ensures { λ r. ⌜ r ≡ code p ⌝ }
-    ensures { λ _. ⌜ now (counts .exit) ≡ told (now (counts .entry)) p ⌝ }
+    ensures { λ _. ⌜ now (counts .exit) ≡ countsAfter (now (counts .entry)) p ⌝ }
 {
     match p {
         Printed::Done(c) => {
@@ -65,7 +67,7 @@ pub extern "C" fn tungvesk_comment(
     texts: &mut [u8],
     counts: &mut [u32; 4],
 ) -> u32
-    ensures { λ r. ⌜ Printing (says (comment kind (now (s .entry)) (location at))) (now (records .entry)) (now (texts .entry)) (now (counts .entry)) (now (records .exit)) (now (texts .exit)) (now (counts .exit)) r ⌝ }
+    ensures { λ r. ⌜ PrintingIn records texts counts r (says (comment kind (now (s .entry)) (location at))) ⌝ }
 {
     let loc = location_of(at);
     let p = comments::format_comment(records, texts, kind, s, loc, items::start());
@@ -77,19 +79,14 @@ struct Verdict(u32, u32, u32);
 
 fn say(t: Tested) -> Verdict
     ensures { λ r. ⌜ r .0 ≡ number (said t) ⌝ }
-    ensures { λ r. ⌜ r .1 ≡ first (said t) ⌝ }
-    ensures { λ r. ⌜ r .2 ≡ second (said t) ⌝ }
+    ensures { λ r. ⌜ r .1 ≡ firstValue (said t) ⌝ }
+    ensures { λ r. ⌜ r .2 ≡ secondValue (said t) ⌝ }
 {
     match t {
-        Tested::WrongLength => Verdict(1, 0, 0),
-        Tested::OutOfLimits => Verdict(2, 0, 0),
-        Tested::UnknownKind(e) => Verdict(3, e.0, 0),
-        Tested::Misplaced(e) => Verdict(4, e.0, 0),
-        Tested::WrongSize(e) => Verdict(5, e.0, 0),
-        Tested::NotUtf8(e) => Verdict(6, e.0, 0),
-        Tested::StringBlock(e) => Verdict(7, e.0, 0),
-        Tested::Misformed(e) => Verdict(8, e.0, 0),
-        Tested::Nameless(e) => Verdict(9, e.0, 0),
+        Tested::Refused(r) => {
+            let reason = r.reason;
+            Verdict(number_of(reason), r.element.0, 0)
+        }
         Tested::Accepted { elements, bytes } => Verdict(0, elements, bytes),
     }
 }
@@ -98,7 +95,7 @@ fn say(t: Tested) -> Verdict
 #[no_mangle]
 pub extern "C" fn tungvesk_refusal(image: &[u8], values: &mut [u32; 2]) -> u32
     ensures { λ r. ⌜ r ≡ number (answer (now (image .entry))) ⌝ }
-    ensures { λ _. ⌜ now (values .exit) ≡ sets (now (values .entry)) 0 (first (answer (now (image .entry))) ∷ second (answer (now (image .entry))) ∷ []) ⌝ }
+    ensures { λ _. ⌜ now (values .exit) ≡ sets (now (values .entry)) 0 (firstValue (answer (now (image .entry))) ∷ secondValue (answer (now (image .entry))) ∷ []) ⌝ }
 {
     let v = say(tree::refusal(image));
     values[0] = v.1;

@@ -1,15 +1,14 @@
 // The calls from a tree image to print items and to their listing.
 use formatter::Answer;
 use formatter::ListAnswer;
-use formatter::refusal::Refusal;
-use formatter::refusal::number_of;
 use items::Count;
+use numbers::refusal::Refusal;
+use numbers::refusal::number_of;
 ghost use mathlib.Core.Path.{_≡_};
-ghost use mathlib.Core.Option.{none, some};
+ghost use mathlib.Core.Option.{none};
 ghost use lib.Seq.{sets};
-ghost use Rattle.formatter.specs.Answer.{answer, recordsAfter, textsAfter, listingAfter};
-ghost use Rattle.formatter.specs.Answer.{refused as away};
-ghost use Rattle.formatter.specs.Told.{numberOf, elementOf, told, toldList};
+ghost use Rattle.formatter.specs.Calls.{answerIn, recordsIn, textsIn, listingIn, listed};
+ghost use Rattle.formatter.specs.Reply.{refusedFor, reply, replyListed};
 ghost use Rattle.exports.specs.Print.{number, values, valuesListed, Reports};
 
 // A refusal of document 01 with its element, or 0 with the counts and the bytes of the listing.
@@ -22,11 +21,11 @@ struct Report {
 
 // A refusal, with no counts.
 fn refused(f: Refusal) -> Report
-    ensures { λ r. ⌜ Reports r (away (numberOf f) (elementOf f)) ⌝ }
+    ensures { λ r. ⌜ Reports r (refusedFor f) ⌝ }
 {
-    let n = number_of(f);
+    let reason = f.reason;
     Report {
-        number: n.number,
+        number: number_of(reason),
         counts: Count {
             records: 0,
             texts: 0,
@@ -35,13 +34,13 @@ fn refused(f: Refusal) -> Report
             lines: 0,
         },
         bytes: 0,
-        element: n.element,
+        element: f.element.0,
     }
 }
 
 // What a printing answers.
 fn report_of(a: Answer) -> Report
-    ensures { λ r. ⌜ Reports r (told a) ⌝ }
+    ensures { λ r. ⌜ Reports r (reply a) ⌝ }
 {
     match a {
         Answer::Refused(f) => refused(f),
@@ -56,7 +55,7 @@ fn report_of(a: Answer) -> Report
 
 // What a printing with its listing answers.
 fn report_listed(a: ListAnswer) -> Report
-    ensures { λ r. ⌜ Reports r (toldList a) ⌝ }
+    ensures { λ r. ⌜ Reports r (replyListed a) ⌝ }
 {
     match a {
         ListAnswer::Refused(f) => refused(f),
@@ -77,10 +76,10 @@ pub extern "C" fn tungvesk_print(
     texts: &mut [u8],
     counts: &mut [u64; 5],
 ) -> u32
-    ensures { λ r. ⌜ r ≡ number (answer (now (image .entry)) (now (records .entry)) (now (texts .entry)) none) ⌝ }
-    ensures { λ _. ⌜ now (counts .exit) ≡ sets (now (counts .entry)) 0 (values (answer (now (image .entry)) (now (records .entry)) (now (texts .entry)) none)) ⌝ }
-    ensures { λ _. ⌜ now (records .exit) ≡ recordsAfter (now (image .entry)) (now (records .entry)) (now (texts .entry)) none ⌝ }
-    ensures { λ _. ⌜ now (texts .exit) ≡ textsAfter (now (image .entry)) (now (records .entry)) (now (texts .entry)) none ⌝ }
+    ensures { λ r. ⌜ r ≡ number (answerIn image records texts none) ⌝ }
+    ensures { λ _. ⌜ now (counts .exit) ≡ sets (now (counts .entry)) 0 (values (answerIn image records texts none)) ⌝ }
+    ensures { λ _. ⌜ now (records .exit) ≡ recordsIn image records texts none ⌝ }
+    ensures { λ _. ⌜ now (texts .exit) ≡ textsIn image records texts none ⌝ }
 {
     let r = report_of(formatter::print_items(image, records, texts));
     counts[0] = r.counts.records as u64;
@@ -100,11 +99,11 @@ pub extern "C" fn tungvesk_list(
     listing: &mut [u8],
     counts: &mut [u64; 6],
 ) -> u32
-    ensures { λ r. ⌜ r ≡ number (answer (now (image .entry)) (now (records .entry)) (now (texts .entry)) (some (now (listing .entry)))) ⌝ }
-    ensures { λ _. ⌜ now (counts .exit) ≡ sets (now (counts .entry)) 0 (valuesListed (answer (now (image .entry)) (now (records .entry)) (now (texts .entry)) (some (now (listing .entry))))) ⌝ }
-    ensures { λ _. ⌜ now (records .exit) ≡ recordsAfter (now (image .entry)) (now (records .entry)) (now (texts .entry)) (some (now (listing .entry))) ⌝ }
-    ensures { λ _. ⌜ now (texts .exit) ≡ textsAfter (now (image .entry)) (now (records .entry)) (now (texts .entry)) (some (now (listing .entry))) ⌝ }
-    ensures { λ _. ⌜ now (listing .exit) ≡ listingAfter (now (image .entry)) (now (records .entry)) (now (texts .entry)) (now (listing .entry)) ⌝ }
+    ensures { λ r. ⌜ r ≡ number (answerIn image records texts (listed listing)) ⌝ }
+    ensures { λ _. ⌜ now (counts .exit) ≡ sets (now (counts .entry)) 0 (valuesListed (answerIn image records texts (listed listing))) ⌝ }
+    ensures { λ _. ⌜ now (records .exit) ≡ recordsIn image records texts (listed listing) ⌝ }
+    ensures { λ _. ⌜ now (texts .exit) ≡ textsIn image records texts (listed listing) ⌝ }
+    ensures { λ _. ⌜ now (listing .exit) ≡ listingIn image records texts listing ⌝ }
 {
     let l = report_listed(formatter::list_items(image, records, texts, listing));
     counts[0] = l.counts.records as u64;

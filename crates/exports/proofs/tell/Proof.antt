@@ -1,11 +1,11 @@
 use borrow.Author.Needs.{needs}
 use mathlib.Core.Path.{refl}
-use Rattle.exports.specs.Comment.{code, told}
+use Rattle.exports.specs.Comment.{code, countsAfter}
 use Rattle.exports.proofs.tell.Statement.{statement}
 use Rattle.exports.proofs.tell.Tie as tie
 
 pub tell-spec : {M : Type 1} → statement M
-unfolding code told
+unfolding code countsAfter
 tell-spec =
     tie.close
     (tie.spec

@@ -11,5 +11,5 @@ refused-spec =
     tie.close
     (tie.spec
     (λ c κs. search needs)  -- number-of-requires
-    (λ c. by-number _ _ (c .before .args .f) (c .number-of .ensures) (record { numbered = refl; valued = refl; listed = refl }))  -- returns
+    (λ c. by-number _ _ (c .before .args .f) (c .number-of .ensures) (record { answered = refl; valued = refl; listed = refl }))  -- returns
     )

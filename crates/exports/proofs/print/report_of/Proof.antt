@@ -14,5 +14,5 @@ report-of-spec =
     (λ c κs. search needs)  -- refused-requires
     (λ c. search needs)  -- enum-known-a-2
     (λ c. search by-case)  -- returns
-    (λ c. by-case _ _ _ (c .before .a2 .given .1) (record { numbered = refl; valued = refl; listed = refl }))  -- returns-2
+    (λ c. by-case _ _ _ (c .before .a2 .given .1) (record { answered = refl; valued = refl; listed = refl }))  -- returns-2
     )

@@ -7,7 +7,7 @@ returns : tie.Need-returns
 returns c =
     let p = c .before .before .before .before .before .before .before .before .before .before .before .before .list-items .ensures in
     let r = c .before .before .before .before .before .report-listed .ensures in
-    rw (← (p .0), ← (r .numbered), ← (r .listed)) (refl, (refl, (p .1 .0, (p .1 .1 .0, p .1 .1 .1 .0))))
+    rw (← (p .0), ← (r .answered), ← (r .listed)) (refl, (refl, (p .1 .0, (p .1 .1 .0, p .1 .1 .1 .0))))
 
 pub tungvesk-list-spec : {M : Type 1} → statement M
 tungvesk-list-spec =

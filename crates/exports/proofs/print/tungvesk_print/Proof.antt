@@ -7,7 +7,7 @@ returns : tie.Need-returns
 returns c =
     let p = c .before .before .before .before .before .before .before .before .before .before .print-items .ensures in
     let r = c .before .before .before .before .before .report-of .ensures in
-    rw (← (p .0), ← (r .numbered), ← (r .valued)) (refl, (refl, (p .1 .0, p .1 .1 .0)))
+    rw (← (p .0), ← (r .answered), ← (r .valued)) (refl, (refl, (p .1 .0, p .1 .1 .0)))
 
 pub tungvesk-print-spec : {M : Type 1} → statement M
 tungvesk-print-spec =
