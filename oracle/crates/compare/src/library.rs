@@ -5,6 +5,8 @@ use std::fmt;
 
 use oracle::records::Records;
 
+use crate::cells::Cells;
+
 unsafe extern "C" {
     fn tungvesk_comment(
         kind: u32,
@@ -73,49 +75,6 @@ impl Answer<'_> {
 /// What the buffers hold before a call.
 const FILL: u32 = 0xa5a5_a5a5;
 const BYTE: u8 = FILL as u8;
-/// So many cells behind those that are lent are looked at too.
-const BEHIND: usize = 8;
-
-/// Cells of which the first are lent to a call. Between the comparisons all hold
-/// the pattern.
-struct Cells<T> {
-    all: Vec<T>,
-    pattern: T,
-}
-
-impl<T: Copy + PartialEq + fmt::Debug> Cells<T> {
-    fn new(pattern: T) -> Self {
-        let all = vec![];
-        Self { all, pattern }
-    }
-
-    /// Where so many cells begin, to lend them.
-    fn lend(&mut self, lent: usize) -> *mut T {
-        let least = lent + BEHIND;
-        if self.all.len() < least {
-            self.all.resize(least, self.pattern);
-        }
-        self.all.as_mut_ptr()
-    }
-
-    /// Whether a call that was lent so many has written these and no others. Puts
-    /// the pattern back.
-    fn compare(&mut self, lent: usize, wanted: &[T]) -> Result<(), String> {
-        let pattern = self.pattern;
-        let (written, rest) = self.all[..lent + BEHIND].split_at_mut(wanted.len());
-        if written == wanted && rest.iter().all(|cell| *cell == pattern) {
-            written.fill(pattern);
-            return Ok(());
-        }
-        let wanted = |place| *wanted.get(place).unwrap_or(&pattern);
-        let mut cells = self.all.iter().enumerate();
-        let found = cells.find(|(place, cell)| **cell != wanted(*place));
-        let (place, cell) = found.expect("a difference");
-        let fault = format!("cell {place} is {cell:?}, and not {:?}", wanted(place));
-        self.all.fill(pattern);
-        Err(fault)
-    }
-}
 
 /// How much is lent to a call.
 #[derive(Debug, Clone, Copy)]
@@ -268,29 +227,4 @@ fn same<V: PartialEq + fmt::Debug>(ours: (u32, V), wanted: (u32, V)) -> Result<(
     Err(format!(
         "{number} with {values:?}, and not {expected} with {counts:?}"
     ))
-}
-
-#[cfg(test)]
-mod tests {
-    use super::*;
-
-    #[test]
-    fn every_cell_is_looked_at() {
-        let (lent, wanted) = (4, b"abc");
-        let mut cells = Cells::new(BYTE);
-        cells.lend(lent);
-        assert_eq!(cells.compare(lent, b""), Ok(()));
-        for place in 0..lent + BEHIND {
-            cells.all[..wanted.len()].copy_from_slice(wanted);
-            assert_eq!(cells.compare(lent, wanted), Ok(()));
-            cells.all[..wanted.len()].copy_from_slice(wanted);
-            cells.all[place] = b'x';
-            let fault = cells.compare(lent, wanted).expect_err("a fault");
-            assert!(
-                fault.starts_with(&format!("cell {place} is 120,")),
-                "{fault}"
-            );
-            assert_eq!(cells.compare(lent, b""), Ok(()), "the pattern is back");
-        }
-    }
 }

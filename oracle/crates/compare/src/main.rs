@@ -7,6 +7,8 @@ use std::process::ExitCode;
 use oracle::DEFAULT_SEED;
 
 mod blocks;
+#[cfg_attr(not(library), allow(dead_code))]
+mod cells;
 #[cfg(library)]
 mod comments;
 #[cfg(library)]
@@ -81,4 +83,25 @@ fn run(seed: u64, count: usize) -> Vec<Report> {
 #[cfg(not(library))]
 fn run(_seed: u64, _count: usize) -> Vec<Report> {
     vec![]
+}
+
+#[cfg(test)]
+mod tests {
+    use oracle::print::deep;
+
+    use super::*;
+
+    /// A short run.
+    #[test]
+    #[cfg_attr(
+        not(library),
+        ignore = "no libexports.a: `rt staticlib exports` writes it"
+    )]
+    fn the_library_gives_what_the_original_gives() {
+        let reports = deep(|| run(DEFAULT_SEED, 1_000));
+        assert!(!reports.is_empty(), "nothing was compared");
+        for report in reports {
+            assert!(report.is_clean(), "{report}");
+        }
+    }
 }
