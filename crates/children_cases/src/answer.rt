@@ -1,5 +1,6 @@
 // The answers of crate `children` to four readings of one sequence, number after number in four digests.
 use super::sequence::put_image;
+use cases::front;
 use children::gap::AT_CHILD;
 use children::gap::AT_END;
 use children::gap::Span;
@@ -219,8 +220,5 @@ pub fn mix_answers(word: &[u8], d: Digests) -> Digests
 {
     let mut image = [0u8; IMAGE];
     let end = put_image(word, &mut image);
-    if IMAGE < end {
-        return d;
-    }
-    answered(&image[..end], d)
+    answered(front(&image, end), d)
 }
