@@ -12,12 +12,12 @@ use Rattle.children.specs.Spans.{Spans, Surveying}
 use Rattle.children.proofs.Stretch.{jumps-le}
 
 -- a gap from which a walk may go on
-pub walk-from : {index text : List ℕ} {w : Kinds} {l a : Bool} {from b : ℕ} {s : Span} → Spans text index w l a from b s → Surveying text index b s 0
+pub walk-from : {index image : List ℕ} {w : Kinds} {l a : Bool} {from b : ℕ} {s : Span} → Spans image index w l a from b s → Surveying image index b s 0
 walk-from h = record { lies = h .lies; onward = h .onward; inside = h .inside; few = omega arith }
 
-module _ {index text : List ℕ} {b : ℕ} {s : Span} (h : Surveying text index b s 0) (e : s .end ≡ 0) {next : ℕ} (q : next ≡ endAt index (s .to)) where
-  pub walk-region : Region text index next b
+module _ {index image : List ℕ} {b : ℕ} {s : Span} (h : Surveying image index b s 0) (e : s .end ≡ 0) {next : ℕ} (q : next ≡ endAt index (s .to)) where
+  pub walk-region : Region image index next b
   walk-region = rw q (region-next (h .onward) (h .inside e))
 
-  pub walk-less : {w : Kinds} {l : Bool} {t : Span} → Spans text index w l true next b t → b - t .to < b - s .to
+  pub walk-less : {w : Kinds} {l : Bool} {t : Span} → Spans image index w l true next b t → b - t .to < b - s .to
   walk-less k = omega (arith, h .inside e, region-past (h .onward) (h .inside e), q, k .begins, jumps-le (k .lies .first .table) (k .lies .first .jumps), jumps-le (k .lies .second .table) (k .lies .second .jumps))

@@ -1,5 +1,6 @@
 // The answers of crate `children` to four readings of one sequence, number after number in four digests.
 use super::sequence::put_image;
+use cases::front;
 use children::gap::AT_CHILD;
 use children::gap::AT_END;
 use children::gap::Span;
@@ -121,54 +122,54 @@ fn mix_outline(table: &[u32], o: Outline, h: u32) -> u32 {
 }
 
 // The children from the one behind a gap on: number, blank line, many lines, what waited, what is inline.
-fn mix_walk(table: &[u32], text: &[u8], w: Kinds, loose: bool, first: Span, b: u32, h: u32) -> u32
-    requires { ⌜ Surveying (now text) (now table) b first 0 ⌝ }
+fn mix_walk(image: &[u8], table: &[u32], w: Kinds, loose: bool, first: Span, b: u32, h: u32) -> u32
+    requires { ⌜ Surveying (now image) (now table) b first 0 ⌝ }
 {
     let mut s = first;
     let mut n = h;
     while s.end == AT_CHILD {
-        n = mix(mix(n, s.to), bit(blank_line(table, text, s)));
-        n = mix(n, bit(newlines_at(table, text, s) >= 1));
+        n = mix(mix(n, s.to), bit(blank_line(image, table, s)));
+        n = mix(n, bit(newlines_at(image, table, s) >= 1));
         n = mix_waiting(table, s, n);
-        s = gap(table, text, w, loose, true, end_at(table, s.to), b);
+        s = gap(image, table, w, loose, true, end_at(table, s.to), b);
         n = mix_inline(table, s, n);
     }
     n
 }
 
 // A reading with no trailing list.
-fn plain(table: &[u32], text: &[u8], loose: bool, a: u32, b: u32, h: u32) -> u32
-    requires { ⌜ Region (now text) (now table) a b ⌝ }
+fn plain(image: &[u8], table: &[u32], loose: bool, a: u32, b: u32, h: u32) -> u32
+    requires { ⌜ Region (now image) (now table) a b ⌝ }
 {
     let w = kinds_of(Class::Expr);
-    let o = survey(table, text, w, loose, a, b);
+    let o = survey(image, table, w, loose, a, b);
     let n = mix_outline(table, o, h);
     if is_foreign(o) {
         return n;
     }
-    let s = gap(table, text, w, loose, false, a, b);
-    mix_walk(table, text, w, loose, s, b, n)
+    let s = gap(image, table, w, loose, false, a, b);
+    mix_walk(image, table, w, loose, s, b, n)
 }
 
 // A reading whose trailing list is what waits in the first gap of the reading without one.
-fn trailing(table: &[u32], text: &[u8], loose: bool, a: u32, b: u32, h: u32) -> u32
-    requires { ⌜ Region (now text) (now table) a b ⌝ }
+fn trailing(image: &[u8], table: &[u32], loose: bool, a: u32, b: u32, h: u32) -> u32
+    requires { ⌜ Region (now image) (now table) a b ⌝ }
 {
     let w = kinds_of(Class::Expr);
-    let t = gap(table, text, w, loose, false, a, b);
-    let o = survey_after(table, text, w, loose, t, a, b);
+    let t = gap(image, table, w, loose, false, a, b);
+    let o = survey_after(image, table, w, loose, t, a, b);
     let n = mix_outline(table, o, h);
     if is_foreign(o) {
         return n;
     }
-    let s = lead(table, text, w, loose, a, b);
+    let s = lead(image, table, w, loose, a, b);
     if s.end != AT_CHILD {
         return n;
     }
-    let many = waiting_newlines(table, text, t) >= 1;
+    let many = waiting_newlines(image, table, t) >= 1;
     let m = mix_waiting(table, t, mix(mix(n, s.to), bit(many)));
-    let next = gap(table, text, w, loose, true, end_at(table, s.to), b);
-    mix_walk(table, text, w, loose, next, b, mix_inline(table, next, m))
+    let next = gap(image, table, w, loose, true, end_at(table, s.to), b);
+    mix_walk(image, table, w, loose, next, b, mix_inline(table, next, m))
 }
 
 // The image passed the tests, and the table holds its index.
@@ -197,10 +198,10 @@ fn answers(image: &[u8], table: &[u32], d: Digests) -> Digests
     let a = node + 1;
     let b = end_at(table, node);
     Digests {
-        strict: plain(table, image, false, a, b, d.strict),
-        loose: plain(table, image, true, a, b, d.loose),
-        strict_after: trailing(table, image, false, a, b, d.strict_after),
-        loose_after: trailing(table, image, true, a, b, d.loose_after),
+        strict: plain(image, table, false, a, b, d.strict),
+        loose: plain(image, table, true, a, b, d.loose),
+        strict_after: trailing(image, table, false, a, b, d.strict_after),
+        loose_after: trailing(image, table, true, a, b, d.loose_after),
     }
 }
 
@@ -219,8 +220,5 @@ pub fn mix_answers(word: &[u8], d: Digests) -> Digests
 {
     let mut image = [0u8; IMAGE];
     let end = put_image(word, &mut image);
-    if IMAGE < end {
-        return d;
-    }
-    answered(&image[..end], d)
+    answered(front(&image, end), d)
 }

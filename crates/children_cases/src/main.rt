@@ -9,39 +9,35 @@ use answer::Digests;
 use answer::basis;
 use answer::mix;
 use answer::mix_answers;
+use cases::Agreement;
+use cases::behind;
+use cases::behind_fields;
 use cases::byte;
-use cases::field;
-use cases::field_end;
+use cases::front;
 use cases::line;
 use cases::load;
+use cases::more;
+use cases::nth_field;
+use cases::number32;
 use sequence::LONGEST;
 use sequence::spell;
-ghost use Prim.Native.Nat.{_+_, _<_, _≤_, min};
-ghost use lib.ListN.{length};
+ghost use Prim.Native.Nat.{_≤_};
 
-// Room for the digests and for the sample.
-const STORED: usize = 128;
+// Bytes of a digest, and of the four of a length.
+const DIGEST: usize = 4;
+
+const STORED: usize = 4 * DIGEST;
+
+// Room for the digests of all lengths and for the sample.
+const DIGESTS: usize = 8 * STORED;
 
 const SAMPLE: usize = 131072;
 
+// A case of the sample has five fields: the sequence, and the answers of its four readings.
+const FIELDS: usize = 5;
+
 // How many sequences of each length there are.
 const COUNTS: [u32; 8] = [1, 10, 100, 1000, 10000, 100000, 1000000, 10000000];
-
-fn wide(b: u8) -> u64
-    ensures { λ r. ⌜ r < 256 ⌝ }
-{
-    b as u64
-}
-
-fn number(b: u8) -> u32 {
-    b as u32
-}
-
-fn count(b: bool) -> u64
-    ensures { λ r. ⌜ r ≤ 1 ⌝ }
-{
-    if b { 1 } else { 0 }
-}
 
 // The four answers to sequence k of n elements, behind what the digests hold.
 fn mix_number(n: usize, k: u32, d: Digests) -> Digests
@@ -49,7 +45,7 @@ fn mix_number(n: usize, k: u32, d: Digests) -> Digests
 {
     let mut word = [0u8; LONGEST];
     spell(k, &mut word);
-    mix_answers(&word[..n], d)
+    mix_answers(front(&word, n), d)
 }
 
 // The answers to the sequences of n elements up to a number.
@@ -65,27 +61,16 @@ fn all_of(n: usize, total: u32) -> Digests
     d
 }
 
-// The digest at a place: four bytes, the lowest first.
-fn stored(v: &[u8], at: usize) -> u64
-    requires { ⌜ at < 256 ⌝ }
-{
-    wide(byte(v, at))
-        + 256 * wide(byte(v, at + 1))
-        + 65536 * wide(byte(v, at + 2))
-        + 16777216 * wide(byte(v, at + 3))
-}
-
 // How many of the four digests of the sequences of n elements are those that are stored.
 fn agreeing(v: &[u8], n: usize, total: u32) -> u64
     requires { ⌜ n ≤ 7 ⌝ }
 {
     let d = all_of(n, total);
-    let at = n * 16;
-    let p = d.strict as u64 == stored(v, at);
-    let q = d.loose as u64 == stored(v, at + 4);
-    let r = d.strict_after as u64 == stored(v, at + 8);
-    let s = d.loose_after as u64 == stored(v, at + 12);
-    count(p) + count(q) + count(r) + count(s)
+    let w = behind(v, n * STORED);
+    let a = more(0, d.strict == number32(w));
+    let b = more(a, d.loose == number32(behind(w, DIGEST)));
+    let c = more(b, d.strict_after == number32(behind(w, 2 * DIGEST)));
+    more(c, d.loose_after == number32(behind(w, 3 * DIGEST)))
 }
 
 fn compare(v: &[u8], n: usize, total: u32)
@@ -107,85 +92,67 @@ fn compare_all(v: &[u8]) {
 // The digest of an answer.
 fn digest(answer: &[u8]) -> u32 {
     let mut h = BASIS;
-    let mut i = 0;
-    while i < answer.len() {
-        h = mix(h, number(answer[i]));
-        i += 1;
+    for i in 0..answer.len() {
+        h = mix(h, byte(answer, i) as u32);
     }
     h
 }
 
-// The sequence that begins at `at` in the sample has the four answers that stand behind it.
-fn agrees(v: &[u8], at: usize) -> bool {
-    let word = field(v, at);
+// The first sequence of the sample has the four answers that stand behind it.
+fn agrees(v: &[u8]) -> bool {
+    let word = nth_field(v, 0);
     if LONGEST < word.len() {
         return false;
     }
     let d = mix_answers(word, basis());
-    let a = field_end(v, at);
-    let b = field_end(v, a);
-    let c = field_end(v, b);
-    let p = d.strict == digest(field(v, a));
-    let q = d.loose == digest(field(v, b));
-    let r = d.strict_after == digest(field(v, c));
-    let s = d.loose_after == digest(field(v, field_end(v, c)));
+    let p = d.strict == digest(nth_field(v, 1));
+    let q = d.loose == digest(nth_field(v, 2));
+    let r = d.strict_after == digest(nth_field(v, 3));
+    let s = d.loose_after == digest(nth_field(v, 4));
     p & q & r & s
 }
 
-// Where the sequence that begins at `at` in the sample ends with its answers.
-fn case_end(v: &[u8], at: usize) -> usize
-    ensures { λ r. ⌜ min (at + 1) (length (now (v .entry))) ≤ r ⌝ }
-    ensures { λ r. ⌜ r ≤ length (now (v .entry)) ⌝ }
-{
-    let a = field_end(v, at);
-    let b = field_end(v, a);
-    let c = field_end(v, b);
-    let d = field_end(v, c);
-    field_end(v, d)
-}
-
-// How many sequences a sample has, how many agree, and how many do so before the first that does not.
-struct Agreement {
-    seen: u64,
-    right: u64,
+// The sequences of a sample, and how many of them agree before the first that does not.
+struct Sample {
+    found: Agreement,
     before: u64,
 }
 
-fn counted(a: Agreement, agrees: bool) -> Agreement {
-    let unbroken = a.before == a.seen;
-    Agreement {
-        seen: std::num::wrapping_add_u64(a.seen, 1),
-        right: std::num::wrapping_add_u64(a.right, count(agrees)),
-        before: std::num::wrapping_add_u64(a.before, count(agrees & unbroken)),
+fn counted(s: Sample, agrees: bool) -> Sample {
+    let found = s.found;
+    Sample {
+        found: found.with(agrees),
+        before: more(s.before, agrees & (s.before == found.seen)),
     }
 }
 
-fn replayed(v: &[u8]) -> Agreement {
-    let mut a = Agreement {
-        seen: 0,
-        right: 0,
+fn replayed(v: &[u8]) -> Sample {
+    let mut s = Sample {
+        found: Agreement::none(),
         before: 0,
     };
-    let mut at = 0;
-    while at < v.len() {
-        a = counted(a, agrees(v, at));
-        at = case_end(v, at);
+    let mut rest = v;
+    while 0 < rest.len() {
+        s = counted(s, agrees(rest));
+        let next = behind_fields(rest, FIELDS);
+        rest = next;
     }
-    a
+    s
 }
 
 fn replay(v: &[u8]) {
-    let a = replayed(v);
-    line(b"sample", a.seen);
-    line(b"  sequences that agree", a.right);
-    line(b"  before the first that does not", a.before);
+    let s = replayed(v);
+    let found = s.found;
+    line(b"sample", found.seen);
+    line(b"  sequences that agree", found.right);
+    line(b"  before the first that does not", s.before);
 }
 
 fn main() {
-    let mut digests = [0u8; STORED];
+    let mut digests = [0u8; DIGESTS];
     let n = load(b"digests.bin", &mut digests);
-    compare_all(&digests[..n]);
+    compare_all(front(&digests, n));
     let mut sample = [0u8; SAMPLE];
     let m = load(b"sample.bin", &mut sample);
-    replay(&sample[..m]);
+    replay(front(&sample, m));
 }

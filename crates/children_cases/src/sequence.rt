@@ -1,4 +1,6 @@
 // A sequence of elements by its letters, and the image of a tree whose root has them as its children.
+use cases::put;
+use cases::put_all;
 ghost use Prim.Native.Nat.{_<_, _≤_};
 ghost use lib.ListN.{length};
 
@@ -19,24 +21,6 @@ pub fn spell(number: u32, word: &mut [u8]) {
         rest = rest / 10;
         i += 1;
     }
-}
-
-fn put(image: &mut [u8], at: usize, b: u8) {
-    if at < image.len() {
-        image[at] = b;
-    }
-}
-
-// Writes a text and says where it ends.
-fn put_all(image: &mut [u8], at: usize, s: &[u8]) -> usize {
-    let mut end = at;
-    let mut i = 0;
-    while i < s.len() {
-        put(image, end, s[i]);
-        end = std::num::wrapping_add_usize(end, 1);
-        i += 1;
-    }
-    end
 }
 
 // The kind of a letter: a child, white space, a `#` comment, a multi-line comment, a custom error, a comma, a colon.

@@ -1,38 +1,39 @@
 // Tokens of about 32,000 bytes, made from a recipe: a head, a piece that comes so many times, and a tail.
-use crate::replay::Agreement;
 use crate::replay::counts_agree;
-use crate::replay::part;
-use crate::replay::third_end;
-use crate::replay::word;
+use cases::Agreement;
+use cases::behind;
+use cases::behind_fields;
 use cases::byte;
-use cases::field;
-use cases::field_end;
+use cases::front;
+use cases::nth_field;
 use cases::number;
+use cases::number32;
+use cases::put_all;
+use cases::word;
 use comments::CommentLocation;
 use items::Count;
 use items::Printed;
+
+// A case has seven fields: the token's kind, head and piece, how often the piece comes, the tail, and what is expected above
+// an item and inline.
+const FIELDS: usize = 7;
+
+// Where the number of text bytes and the checksum that are expected stand, behind the number of records.
+const TEXTS: usize = 4;
+
+const SUM: usize = 8;
 
 const FACTOR: u64 = 65599;
 
 const MODULUS: u64 = 4294967291;
 
-// The least number of bytes that a large token has.
+// The least number of bytes that a large token has, and room for it.
 const LARGE: usize = 31990;
 
-// A number of four bytes, the lower first.
-fn number32(v: &[u8], at: u8) -> u64 {
-    let from = at as usize;
-    let low = byte(v, from) as u64 + 256 * (byte(v, from + 1) as u64);
-    let high = byte(v, from + 2) as u64 + 256 * (byte(v, from + 3) as u64);
-    low + 65536 * high
-}
+const TOKEN: usize = 32768;
 
 fn mixed(sum: u64, w: u32) -> u64 {
     ((sum % MODULUS) * FACTOR + w as u64) % MODULUS
-}
-
-fn mixed_byte(sum: u64, b: u8) -> u64 {
-    mixed(sum, b as u32)
 }
 
 // The first n words.
@@ -46,10 +47,8 @@ fn mixed_words(records: &[u32], n: usize, sum: u64) -> u64 {
 
 fn mixed_bytes(texts: &[u8], sum: u64) -> u64 {
     let mut found = sum;
-    let mut i = 0;
-    while i < texts.len() {
-        found = mixed_byte(found, texts[i]);
-        i += 1;
+    for i in 0..texts.len() {
+        found = mixed(found, byte(texts, i) as u32);
     }
     found
 }
@@ -57,7 +56,7 @@ fn mixed_bytes(texts: &[u8], sum: u64) -> u64 {
 // A checksum over the words of the records and the bytes of the texts that `c` counts.
 fn checksum(records: &[u32], texts: &[u8], c: Count) -> u64 {
     let sum = mixed_words(records, 3 * (c.records as usize), 0);
-    mixed_bytes(part(texts, 0, c.texts as usize), sum)
+    mixed_bytes(front(texts, c.texts as usize), sum)
 }
 
 // A token at one place prints so many records and text bytes, with this checksum.
@@ -73,8 +72,8 @@ fn agrees_at(
     let Printed::Done(c) = p else {
         return false;
     };
-    let sizes = (c.records as u64 == number32(want, 0)) & (c.texts as u64 == number32(want, 4));
-    let sum = checksum(records, texts, c) == number32(want, 8);
+    let sizes = (c.records == number32(want)) & (c.texts == number32(behind(want, TEXTS)));
+    let sum = checksum(records, texts, c) == number32(behind(want, SUM)) as u64;
     sizes & sum & counts_agree(kind, s, loc, c)
 }
 
@@ -93,79 +92,55 @@ fn agrees(
     a & b & c
 }
 
-// Stores a byte, if there is room, and says where the next one goes.
-fn put_byte(token: &mut [u8], at: usize, b: u8) -> usize {
-    if at < token.len() {
-        token[at] = b;
-        return at + 1;
-    }
-    at
-}
-
-// Copies a piece to its place, as far as there is room, and says where it ends.
-fn put(token: &mut [u8], at: usize, piece: &[u8]) -> usize {
-    let mut to = at;
-    let mut i = 0;
-    while i < piece.len() {
-        to = put_byte(token, to, piece[i]);
-        i += 1;
-    }
-    to
-}
-
+// Puts a piece so many times, and says where the last ends.
 fn put_often(token: &mut [u8], at: usize, piece: &[u8], times: usize) -> usize {
     let mut to = at;
     for _ in 0..times {
-        to = put(token, to, piece);
+        to = put_all(token, to, piece);
     }
     to
 }
 
 // Puts a token together, and says how long it is.
 fn made(token: &mut [u8], head: &[u8], piece: &[u8], times: usize, tail: &[u8]) -> usize {
-    let a = put(token, 0, head);
+    let a = put_all(token, 0, head);
     let b = put_often(token, a, piece, times);
-    put(token, b, tail)
+    put_all(token, b, tail)
 }
 
-// The case that begins at `at`.
-fn case_agrees(records: &mut [u32], texts: &mut [u8], v: &[u8], at: usize) -> bool {
-    let head = field_end(v, at);
-    let piece = field_end(v, head);
-    let times = field_end(v, piece);
-    let tail = field_end(v, times);
-    let above = field_end(v, tail);
-    let inline = field_end(v, above);
-    let mut token = [0u8; 32768];
-    let often = number(field(v, times));
+// The first case of v.
+fn case_agrees(records: &mut [u32], texts: &mut [u8], v: &[u8]) -> bool {
+    let kind = byte(nth_field(v, 0), 0) as u32;
+    let often = number(nth_field(v, 3)) as usize;
+    let mut token = [0u8; TOKEN];
     let n = made(
         &mut token,
-        field(v, head),
-        field(v, piece),
+        nth_field(v, 1),
+        nth_field(v, 2),
         often,
-        field(v, tail),
+        nth_field(v, 4),
     );
     if n < LARGE {
         return false;
     }
-    let kind = byte(field(v, at), 0) as u32;
     agrees(
         records,
         texts,
         kind,
-        part(&token, 0, n),
-        field(v, above),
-        field(v, inline),
+        front(&token, n),
+        nth_field(v, 5),
+        nth_field(v, 6),
     )
 }
 
-// A case has seven fields.
+// All cases of v.
 pub fn replayed(records: &mut [u32], texts: &mut [u8], v: &[u8]) -> Agreement {
     let mut found = Agreement::none();
-    let mut at = 0;
-    while at < v.len() {
-        found = found.with(case_agrees(records, texts, v, at));
-        at = field_end(v, third_end(v, third_end(v, at)));
+    let mut rest = v;
+    while 0 < rest.len() {
+        found = found.with(case_agrees(records, texts, rest));
+        let next = behind_fields(rest, FIELDS);
+        rest = next;
     }
     found
 }

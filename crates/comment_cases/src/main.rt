@@ -2,10 +2,10 @@
 mod large;
 mod replay;
 
+use cases::Agreement;
+use cases::front;
 use cases::line;
 use cases::load;
-use replay::Agreement;
-use replay::part;
 ghost use mathlib.Core.Path.{_≡_};
 ghost use lib.ListN.{length};
 
@@ -29,9 +29,8 @@ const ERROR_UNEXPECTED_TOKEN: u32 = 71;
 const ERROR_CUSTOM: u32 = 72;
 
 fn report(label: &[u8], a: Agreement) {
-    line(label, a.seen);
-    line(b"  agree", a.right);
-    line(b"  differ", a.wrong);
+    a.print(label);
+    line(b"  differ", std::num::wrapping_sub_u64(a.seen, a.right));
 }
 
 fn replay_kind(records: &mut [u32], texts: &mut [u8], v: &[u8], kind: u32, label: &[u8]) {
@@ -100,14 +99,14 @@ fn replay_all(records: &mut [u32], texts: &mut [u8], v: &[u8]) {
 
 fn replay_vectors(records: &mut [u32], texts: &mut [u8], file: &mut [u8]) {
     let n = load(b"vectors.bin", file);
-    replay_all(records, texts, part(file, 0, n));
+    replay_all(records, texts, front(file, n));
 }
 
 fn replay_large(records: &mut [u32], texts: &mut [u8], file: &mut [u8]) {
     let n = load(b"large.bin", file);
     report(
         b"large tokens",
-        large::replayed(records, texts, part(file, 0, n)),
+        large::replayed(records, texts, front(file, n)),
     );
 }
 

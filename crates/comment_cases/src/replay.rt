@@ -1,144 +1,67 @@
 // Tokens whose items are written out.
+use cases::Agreement;
+use cases::behind;
+use cases::behind_fields;
 use cases::byte;
-use cases::field;
-use cases::field_end;
+use cases::front;
+use cases::nth_field;
 use cases::number;
+use cases::word;
 use comments::CommentLocation;
 use items::Count;
 use items::Printed;
-ghost use Prim.Native.Nat.{_+_, _≤_, min};
+ghost use Prim.Native.Nat.{_-_, _≤_};
 ghost use lib.ListN.{length};
 
-// The kind of a text.
+// A case has four fields: the token's kind and text, and its items above an item and inline.
+const FIELDS: usize = 4;
+
+// The kind of a text, behind which stand its length and its bytes.
 const TEXT: u8 = 1;
+
+const TEXT_HEAD: usize = 2;
 
 // The first byte of a field of items that says: as above an item.
 const AS_ABOVE: u8 = 255;
-
-// Tokens: how many were tried, how many agree in every way, and how many do not.
-pub struct Agreement {
-    pub seen: u64,
-    pub right: u64,
-    pub wrong: u64,
-}
-
-fn next(n: u64) -> u64 {
-    std::num::wrapping_add_u64(n, 1)
-}
-
-impl Agreement {
-    pub fn none() -> Self {
-        Agreement {
-            seen: 0,
-            right: 0,
-            wrong: 0,
-        }
-    }
-
-    // One token more.
-    pub fn with(self, agrees: bool) -> Self {
-        let seen = next(self.seen);
-        if agrees {
-            return Agreement {
-                seen: seen,
-                right: next(self.right),
-                wrong: self.wrong,
-            };
-        }
-        Agreement {
-            seen: seen,
-            right: self.right,
-            wrong: next(self.wrong),
-        }
-    }
-}
-
-// A word, 0 past the end.
-pub fn word(records: &[u32], at: usize) -> u32 {
-    if at < records.len() { records[at] } else { 0 }
-}
 
 // Word k of record n.
 fn record_word(records: &[u32], n: u32, k: u8) -> u32 {
     word(records, 3 * (n as usize) + k as usize)
 }
 
-// The n bytes from `at` on; nothing, where there are fewer.
-pub fn part(s: &[u8], at: usize, n: usize) -> &[u8] {
-    if at <= s.len() {
-        if n <= s.len() - at {
-            let end = at + n;
-            return &s[at..end];
-        }
-    }
-    &s[..0]
-}
-
-// The length that the text at `at` states.
-fn text_size(want: &[u8], at: usize) -> u8 {
-    if at < want.len() {
-        byte(want, at + 1)
-    } else {
-        0
-    }
-}
-
-// Where the item that begins at `at` ends: a text behind its kind, its length and its bytes, any other behind its kind.
-fn item_end(want: &[u8], at: usize) -> usize
-    ensures { λ r. ⌜ min (at + 1) (length (now (want .entry))) ≤ r ⌝ }
-    ensures { λ r. ⌜ r ≤ length (now (want .entry)) ⌝ }
+// What stands behind the first item: a text is as long as its length says.
+fn behind_item(want: &[u8]) -> &[u8]
+    ensures { λ r. ⌜ length (now r) ≤ length (now (want .entry)) - 1 ⌝ }
 {
-    if want.len() <= at {
-        return want.len();
+    if byte(want, 0) != TEXT {
+        return behind(want, 1);
     }
-    if want[at] != TEXT {
-        return at + 1;
-    }
-    let n = text_size(want, at) as usize;
-    if n + 2 <= want.len() - at {
-        return at + 2 + n;
-    }
-    want.len()
+    behind(want, TEXT_HEAD + byte(want, 1) as usize)
 }
 
-// The bytes of the text that begins at `at`.
-fn item_text(want: &[u8], at: usize) -> &[u8] {
-    let end = item_end(want, at);
-    if at < end {
-        if at + 2 <= end {
-            let from = at + 2;
-            return &want[from..end];
-        }
-    }
-    &want[..0]
-}
-
-// Record n is a text from `offset` on, of this size and with these bytes.
-fn text_agrees(records: &[u32], texts: &[u8], n: u32, offset: u32, size: u8, want: &[u8]) -> bool {
+// Record n is the text that comes first in `want`, stored from `offset` on.
+fn text_agrees(records: &[u32], texts: &[u8], n: u32, offset: u32, want: &[u8]) -> bool {
+    let size = byte(want, 1);
     if record_word(records, n, 1) != offset {
         return false;
     }
     if record_word(records, n, 2) != size as u32 {
         return false;
     }
-    check::same(part(texts, offset as usize, size as usize), want)
+    check::same(
+        front(behind(texts, offset as usize), size as usize),
+        front(behind(want, TEXT_HEAD), size as usize),
+    )
 }
 
-// Record n is the item that begins at `at`.
-fn item_agrees(records: &[u32], texts: &[u8], n: u32, offset: u32, want: &[u8], at: usize) -> bool {
-    let kind = byte(want, at);
+// Record n is the item that comes first in `want`.
+fn item_agrees(records: &[u32], texts: &[u8], n: u32, offset: u32, want: &[u8]) -> bool {
+    let kind = byte(want, 0);
     if record_word(records, n, 0) != kind as u32 {
         return false;
     }
     if kind == TEXT {
-        text_agrees(
-            records,
-            texts,
-            n,
-            offset,
-            text_size(want, at),
-            item_text(want, at),
-        )
+        text_agrees(records, texts, n, offset, want)
     } else {
         (record_word(records, n, 1) == 0) & (record_word(records, n, 2) == 0)
     }
@@ -148,15 +71,16 @@ fn item_agrees(records: &[u32], texts: &[u8], n: u32, offset: u32, want: &[u8], 
 fn items_agree(records: &[u32], texts: &[u8], c: Count, want: &[u8]) -> bool {
     let mut n: u32 = 0;
     let mut offset: u32 = 0;
-    let mut at = 0;
-    while at < want.len() {
-        if !item_agrees(records, texts, n, offset, want, at) {
+    let mut rest = want;
+    while 0 < rest.len() {
+        if !item_agrees(records, texts, n, offset, rest) {
             return false;
         }
         // The length of a text; 0 of any other record.
         offset = std::num::wrapping_add_u32(offset, record_word(records, n, 2));
         n = std::num::wrapping_add_u32(n, 1);
-        at = item_end(want, at);
+        let next = behind_item(rest);
+        rest = next;
     }
     (n == c.records) & (offset == c.texts)
 }
@@ -209,57 +133,46 @@ fn agrees(
     a & b & c
 }
 
-// The field that holds the items inline: the next one, or that of the items above an item.
-fn inline_field(v: &[u8], above: usize) -> usize {
-    let at = field_end(v, above);
-    if byte(field(v, at), 0) == AS_ABOVE {
-        above
+// The items inline of the first case, which may be those above an item.
+fn inline_items(v: &[u8]) -> &[u8] {
+    let inline = nth_field(v, 3);
+    if byte(inline, 0) == AS_ABOVE {
+        nth_field(v, 2)
     } else {
-        at
+        inline
     }
 }
 
-// The case that begins at `at` is tried, if its token is of this kind.
+// The first case of v is tried, if its token is of this kind.
 fn tried(
     records: &mut [u32],
     texts: &mut [u8],
     v: &[u8],
-    at: usize,
     kind: u32,
     found: Agreement,
 ) -> Agreement {
-    if number(field(v, at)) != kind as usize {
+    if number(nth_field(v, 0)) as u32 != kind {
         return found;
     }
-    let text = field_end(v, at);
-    let above = field_end(v, text);
-    let inline = inline_field(v, above);
     let right = agrees(
         records,
         texts,
         kind,
-        field(v, text),
-        field(v, above),
-        field(v, inline),
+        nth_field(v, 1),
+        nth_field(v, 2),
+        inline_items(v),
     );
     found.with(right)
 }
 
-// Where three fields end.
-pub fn third_end(v: &[u8], at: usize) -> usize
-    ensures { λ r. ⌜ min (at + 1) (length (now (v .entry))) ≤ r ⌝ }
-    ensures { λ r. ⌜ r ≤ length (now (v .entry)) ⌝ }
-{
-    field_end(v, field_end(v, field_end(v, at)))
-}
-
-// The tokens of one kind. A case has four fields.
+// The tokens of one kind.
 pub fn replayed(records: &mut [u32], texts: &mut [u8], v: &[u8], kind: u32) -> Agreement {
     let mut found = Agreement::none();
-    let mut at = 0;
-    while at < v.len() {
-        found = tried(records, texts, v, at, kind, found);
-        at = field_end(v, third_end(v, at));
+    let mut rest = v;
+    while 0 < rest.len() {
+        found = tried(records, texts, rest, kind, found);
+        let next = behind_fields(rest, FIELDS);
+        rest = next;
     }
     found
 }

@@ -1,4 +1,5 @@
 // Writes three listings: that of `[1]`, as the scope paper has it, one with every kind of record, and the beginning of the first in a short buffer.
+use cases::front;
 use items::Count;
 use libc::STDOUT_FILENO;
 ghost use Rattle.listing.specs.Listable.{Listable};
@@ -158,13 +159,6 @@ const EVERY_KIND: [u32; 57] = [
 // Their texts, `twelve bytes`.
 const TWELVE: [u8; 12] = [116, 119, 101, 108, 118, 101, 32, 98, 121, 116, 101, 115];
 
-// Writes the first n bytes of a listing.
-fn print(out: &[u8], n: usize) {
-    if n <= out.len() {
-        io::write_all(STDOUT_FILENO, &out[..n]);
-    }
-}
-
 // Writes a whole listing.
 fn print_listing(records: &[u32], texts: &[u8], c: Count)
     requires { ⌜ Told (now records) (now texts) c ⌝ }
@@ -172,7 +166,7 @@ fn print_listing(records: &[u32], texts: &[u8], c: Count)
     let n = listing::listing_length(c);
     let mut out = io::buffer();
     listing::write_listing(records, texts, c, &mut out);
-    print(&out, n);
+    io::write_all(STDOUT_FILENO, front(&out, n));
 }
 
 // Writes as much of a listing as 40 bytes take.
@@ -181,7 +175,7 @@ fn print_beginning(records: &[u32], texts: &[u8], c: Count)
 {
     let mut out = [0u8; 40];
     listing::write_listing(records, texts, c, &mut out);
-    print(&out, 40);
+    io::write_all(STDOUT_FILENO, &out);
 }
 
 fn main() {

@@ -1,26 +1,37 @@
 // Runs the functions of crate `text` on every string of one and of two bytes and on the vectors of
 // data/vectors.bin, and prints what it counted.
-use cases::field;
-use cases::field_end;
+use cases::Agreement;
+use cases::behind_fields;
+use cases::front;
 use cases::line;
+use cases::load;
+use cases::nth_field;
 use cases::number;
 
-// The operation of a vector, by its number in the file.
-const IS_UTF8: u8 = 1;
+// A vector has four fields: its operation, two texts, and what is expected.
+const FIELDS: usize = 4;
 
-const TRIM_END: u8 = 2;
+// The operations.
+const IS_UTF8: u16 = 1;
 
-const TRIM: u8 = 3;
+const TRIM_END: u16 = 2;
 
-const COMMON_WS_PREFIX: u8 = 4;
+const TRIM: u16 = 3;
 
-const STARTS_WITH: u8 = 5;
+const COMMON_WS_PREFIX: u16 = 4;
 
-const ENDS_WITH: u8 = 6;
+const STARTS_WITH: u16 = 5;
 
-const LINE_END: u8 = 7;
+const ENDS_WITH: u16 = 6;
 
-const LINE_FEEDS: u8 = 8;
+const LINE_END: u16 = 7;
+
+const LINE_FEEDS: u16 = 8;
+
+// How many strings of one and of two bytes there are.
+const ONES: usize = 256;
+
+const TWOS: usize = ONES * ONES;
 
 // What was counted over a set of strings.
 struct Tally {
@@ -71,17 +82,8 @@ impl Tally {
 
 fn all_of_one() -> Tally {
     let mut t = Tally::new();
-    for a in 0u8..=255 {
-        let s = [a];
-        t = t.with(&s);
-    }
-    t
-}
-
-fn all_that_begin(a: u8, so_far: Tally) -> Tally {
-    let mut t = so_far;
-    for b in 0u8..=255 {
-        let s = [a, b];
+    for k in 0..ONES {
+        let s = [k as u8];
         t = t.with(&s);
     }
     t
@@ -89,8 +91,9 @@ fn all_that_begin(a: u8, so_far: Tally) -> Tally {
 
 fn all_of_two() -> Tally {
     let mut t = Tally::new();
-    for a in 0u8..=255 {
-        t = all_that_begin(a, t);
+    for k in 0..TWOS {
+        let s = [(k / ONES) as u8, (k % ONES) as u8];
+        t = t.with(&s);
     }
     t
 }
@@ -100,7 +103,7 @@ fn is_flag(b: bool, want: &[u8]) -> bool {
 }
 
 // The answer for `a` and `b` is the expected one.
-fn agrees(op: u8, a: &[u8], b: &[u8], want: &[u8]) -> bool {
+fn agrees(op: u16, a: &[u8], b: &[u8], want: &[u8]) -> bool {
     match op {
         IS_UTF8 => is_flag(text::is_utf8(a), want),
         TRIM_END => check::same(text::trim_end(a), want),
@@ -108,65 +111,49 @@ fn agrees(op: u8, a: &[u8], b: &[u8], want: &[u8]) -> bool {
         COMMON_WS_PREFIX => check::same(text::common_ws_prefix(a, b), want),
         STARTS_WITH => is_flag(text::starts_with(a, b), want),
         ENDS_WITH => is_flag(text::ends_with(a, b), want),
-        LINE_END => number(want) == text::line_end(a, b.len()),
-        LINE_FEEDS => number(want) == text::line_feeds(a),
+        LINE_END => number(want) as usize == text::line_end(a, b.len()),
+        LINE_FEEDS => number(want) as usize == text::line_feeds(a),
         _ => false,
     }
 }
 
-// The vectors of one operation: how many there are, and how many answers agree.
-struct Agreement {
-    seen: u64,
-    right: u64,
-}
-
-fn replayed(v: &[u8], op: u8) -> Agreement {
-    let mut seen: u64 = 0;
-    let mut right: u64 = 0;
-    let mut at = 0;
-    while at < v.len() {
-        let a = field_end(v, at);
-        let b = field_end(v, a);
-        let want = field_end(v, b);
-        if number(field(v, at)) == op as usize {
-            seen = add(seen, 1);
-            if agrees(op, field(v, a), field(v, b), field(v, want)) {
-                right = add(right, 1);
-            }
-        }
-        at = field_end(v, want);
+// The first vector of v is tried, if it is of this operation.
+fn tried(v: &[u8], op: u16, found: Agreement) -> Agreement {
+    if number(nth_field(v, 0)) != op {
+        return found;
     }
-    Agreement { seen, right }
+    found.with(agrees(op, nth_field(v, 1), nth_field(v, 2), nth_field(v, 3)))
 }
 
-fn replay(v: &[u8], op: u8, label: &[u8]) {
-    let r = replayed(v, op);
-    line(label, r.seen);
-    line(b"  agree", r.right);
+// The vectors of one operation.
+fn replayed(v: &[u8], op: u16) -> Agreement {
+    let mut found = Agreement::none();
+    let mut rest = v;
+    while 0 < rest.len() {
+        found = tried(rest, op, found);
+        let next = behind_fields(rest, FIELDS);
+        rest = next;
+    }
+    found
 }
 
 fn replay_all(v: &[u8]) {
-    replay(v, IS_UTF8, b"is_utf8");
-    replay(v, TRIM_END, b"trim_end");
-    replay(v, TRIM, b"trim");
-    replay(v, COMMON_WS_PREFIX, b"common_ws_prefix");
-    replay(v, STARTS_WITH, b"starts_with");
-    replay(v, ENDS_WITH, b"ends_with");
-    replay(v, LINE_END, b"line_end");
-    replay(v, LINE_FEEDS, b"line_feeds");
+    replayed(v, IS_UTF8).print(b"is_utf8");
+    replayed(v, TRIM_END).print(b"trim_end");
+    replayed(v, TRIM).print(b"trim");
+    replayed(v, COMMON_WS_PREFIX).print(b"common_ws_prefix");
+    replayed(v, STARTS_WITH).print(b"starts_with");
+    replayed(v, ENDS_WITH).print(b"ends_with");
+    replayed(v, LINE_END).print(b"line_end");
+    replayed(v, LINE_FEEDS).print(b"line_feeds");
 }
 
 fn main() {
-    line(b"strings of one byte", 256);
+    line(b"strings of one byte", ONES as u64);
     all_of_one().print();
-    line(b"strings of two bytes", 65536);
+    line(b"strings of two bytes", TWOS as u64);
     all_of_two().print();
     let mut file = io::large_buffer();
-    let fd = os::open_read(b"vectors.bin");
-    if fd < 0 {
-        os::fail(b"vectors.bin");
-        return;
-    }
-    let n = io::read_full(fd, &mut file);
-    replay_all(&file[..n]);
+    let n = load(b"vectors.bin", &mut file);
+    replay_all(front(&file, n));
 }

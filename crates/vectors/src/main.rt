@@ -1,8 +1,9 @@
 // Replays the images of data/vectors.bin through what the program prints, and prints how many of the answers that the file has agree.
+use cases::behind_long_field;
+use cases::front;
 use cases::line;
 use cases::load;
 use cases::long_field;
-use cases::long_field_end;
 use formatter::program::respond;
 use libc::STDOUT_FILENO;
 ghost use Rattle.vectors.specs.Replies.{Replies};
@@ -40,12 +41,13 @@ fn count(counts: &mut [u64], k: usize) {
 // Counts the answers for all images of a file, and says how many images there are.
 fn replay(v: &[u8], counts: &mut [u64]) -> u64 {
     let mut images: u64 = 0;
-    let mut at = 0;
-    while at < v.len() {
-        let want = long_field_end(v, at);
-        count(counts, replied(long_field(v, at), long_field(v, want)));
+    let mut rest = v;
+    while 0 < rest.len() {
+        let want = behind_long_field(rest);
+        count(counts, replied(long_field(rest), long_field(want)));
         images = std::num::wrapping_add_u64(images, 1);
-        at = long_field_end(v, want);
+        let next = behind_long_field(want);
+        rest = next;
     }
     images
 }
@@ -71,7 +73,7 @@ fn main() {
     let mut file = [0u8; FILE];
     let n = load(b"vectors.bin", &mut file);
     let mut counts = [0u64; ANSWERS];
-    line(b"images", replay(&file[..n], &mut counts));
+    line(b"images", replay(front(&file, n), &mut counts));
     line(b"listings", counted(&counts, 0));
     report_refusals(&counts);
     line(b"differ", counted(&counts, DIFFERENT));

@@ -5,10 +5,10 @@ use Rattle.children_cases.proofs.digest.Statement.{statement}
 use Rattle.children_cases.proofs.digest.Tie as tie
 
 abbrev Inv-loop : tie.InvT-loop
-Inv-loop answer h₀ i₀ h i = Unit {0}
+Inv-loop answer h₀ i₀ i-end h i = Unit {0}
 
 abbrev μ-loop : tie.MeasureT-loop
-μ-loop answer h₀ i₀ h i = length answer - i
+μ-loop answer h₀ i₀ i-end h i = length answer - i
 
 pub digest-spec : {M : Type 1} → statement M
 digest-spec =
@@ -17,8 +17,8 @@ digest-spec =
     Inv-loop
     μ-loop
     (λ c. tt)  -- loop-holds
-    (λ c. search needs)  -- shared-slice-read-number
-    (λ c κs. search needs)  -- number-requires
+    (λ c κs. search needs)  -- byte-requires
+    (λ c. search needs)  -- cast-mix
     (λ c κs. search needs)  -- mix-requires
     (λ c. search needs)  -- add-i
     (λ c. search needs)  -- loop-less

@@ -19,5 +19,6 @@ agrees-spec =
     (λ c κs. c .before .before .before .before .indexed .ensures (not-false _ (c .before .before .if2 .left)))  -- found-requires
     (λ c κs. search needs)  -- place-requires
     (λ c κs. search needs)  -- number-requires
+    (λ c. search needs)  -- cast-result
     (λ c. search needs)  -- returns-4
     )

@@ -1,14 +1,13 @@
-use Prim.Native.Nat.{_-_, _≤_}
 use lib.ListN.{length}
 use borrow.Author.Needs.{needs}
 use Rattle.tree_cases.proofs.replayed.Statement.{statement}
 use Rattle.tree_cases.proofs.replayed.Tie as tie
 
 abbrev Inv-loop : tie.InvT-loop
-Inv-loop v op seen₀ right₀ at₀ seen right at = at ≤ length v
+Inv-loop v op found₀ rest₀ found rest = Unit {0}
 
 abbrev μ-loop : tie.MeasureT-loop
-μ-loop v op seen₀ right₀ at₀ seen right at = length v - at
+μ-loop v op found₀ rest₀ found rest = length rest
 
 pub replayed-spec : {M : Type 1} → statement M
 replayed-spec =
@@ -16,20 +15,11 @@ replayed-spec =
     (tie.spec
     Inv-loop
     μ-loop
-    (λ c. search needs)  -- loop-holds
-    (λ c κs. search needs)  -- field-end-requires
-    (λ c κs. search needs)  -- field-end-requires-2
-    (λ c κs. search needs)  -- field-end-requires-3
-    (λ c κs. search needs)  -- field-requires
-    (λ c κs. search needs)  -- number-requires
-    (λ c κs. search needs)  -- add-requires
-    (λ c κs. search needs)  -- field-requires-2
-    (λ c κs. search needs)  -- field-requires-3
-    (λ c κs. search needs)  -- field-requires-4
-    (λ c κs. search needs)  -- agrees-requires
-    (λ c κs. search needs)  -- add-requires-2
-    (λ c κs. search needs)  -- field-end-requires-4
+    (λ c κs. search needs)  -- none-requires
+    (λ c. tt)  -- loop-holds
+    (λ c κs. search needs)  -- tried-requires
+    (λ c κs. search needs)  -- behind-fields-requires
     (λ c. search needs)  -- loop-less
-    (λ c. search needs)  -- loop-again
+    (λ c. tt)  -- loop-again
     (λ c. search needs)  -- returns
     )

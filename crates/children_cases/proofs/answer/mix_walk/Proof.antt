@@ -6,10 +6,10 @@ use Rattle.children_cases.proofs.answer.mix_walk.Statement.{statement}
 use Rattle.children_cases.proofs.answer.mix_walk.Tie as tie
 
 abbrev Inv-loop : tie.InvT-loop
-Inv-loop table text w loose b h s₀ n₀ s n = Surveying text table b s 0
+Inv-loop image table w loose b h s₀ n₀ s n = Surveying image table b s 0
 
 abbrev μ-loop : tie.MeasureT-loop
-μ-loop table text w loose b h s₀ n₀ s n = b - s .to
+μ-loop image table w loose b h s₀ n₀ s n = b - s .to
 
 pub mix-walk-spec : {M : Type 1} → statement M
 mix-walk-spec =

@@ -1,10 +1,10 @@
-use Prim.Native.Nat.{_-_, _≤_}
+use Prim.Native.Nat.{_-_}
 use borrow.Author.Needs.{needs}
 use Rattle.comment_cases.proofs.large.mixed_words.Statement.{statement}
 use Rattle.comment_cases.proofs.large.mixed_words.Tie as tie
 
 abbrev Inv-loop : tie.InvT-loop
-Inv-loop records n sum found₀ i₀ found i = i ≤ n
+Inv-loop records n sum found₀ i₀ found i = Unit {0}
 
 abbrev μ-loop : tie.MeasureT-loop
 μ-loop records n sum found₀ i₀ found i = n - i
@@ -15,11 +15,11 @@ mixed-words-spec =
     (tie.spec
     Inv-loop
     μ-loop
-    (λ c. search needs)  -- loop-holds
+    (λ c. tt)  -- loop-holds
     (λ c κs. search needs)  -- word-requires
     (λ c κs. search needs)  -- mixed-requires
     (λ c. search needs)  -- add-i
     (λ c. search needs)  -- loop-less
-    (λ c. search needs)  -- loop-again
+    (λ c. tt)  -- loop-again
     (λ c. search needs)  -- returns
     )

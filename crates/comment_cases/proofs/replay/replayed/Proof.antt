@@ -1,15 +1,14 @@
 use mathlib.Core.Path.{_≡_}
-use Prim.Native.Nat.{_-_, _≤_}
 use lib.ListN.{length}
 use borrow.Author.Needs.{needs}
 use Rattle.comment_cases.proofs.replay.replayed.Statement.{statement}
 use Rattle.comment_cases.proofs.replay.replayed.Tie as tie
 
 abbrev Inv-loop : tie.InvT-loop
-Inv-loop records₀ texts₀ v kind found₀ at₀ records texts found at = ((at ≤ length v) × (length records ≡ length records₀)) × (length texts ≡ length texts₀)
+Inv-loop records₀ texts₀ v kind found₀ rest₀ records texts found rest = (length records ≡ length records₀) × (length texts ≡ length texts₀)
 
 abbrev μ-loop : tie.MeasureT-loop
-μ-loop records₀ texts₀ v kind found₀ at₀ records texts found at = length v - at
+μ-loop records₀ texts₀ v kind found₀ rest₀ records texts found rest = length rest
 
 pub replayed-spec : {M : Type 1} → statement M
 replayed-spec =
@@ -20,8 +19,7 @@ replayed-spec =
     (λ c κs. search needs)  -- none-requires
     (λ c. search needs)  -- loop-holds
     (λ c κs. search needs)  -- tried-requires
-    (λ c κs. search needs)  -- third-end-requires
-    (λ c κs. search needs)  -- field-end-requires
+    (λ c κs. search needs)  -- behind-fields-requires
     (λ c. search needs)  -- loop-less
     (λ c. search needs)  -- loop-again
     (λ c. search needs)  -- same-length

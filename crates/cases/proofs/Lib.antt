@@ -1,0 +1,4 @@
+-- Laws that belong to no one function.
+mod Parts
+mod Walk
+mod Storing
