@@ -6,6 +6,7 @@ use mathlib.Core.List.{List, [], _∷_}
 use Prim.Native.Nat.{ℕ, _≤_}
 use lib.Dec.{eqb, ltb}
 use Rattle.text.specs.Basic.{any}
+use Rattle.text.specs.Lent.{Lent}
 use Rattle.tree.specs.Tree.{Part}
 use Rattle.tree.specs.declared.class.Class.{Class}
 use Rattle.tree.specs.declared.class.Class.the-variants as Class
@@ -22,8 +23,6 @@ use Rattle.children.specs.Stretch.{notes, Stretch}
 -- one of the parts has this number
 unfoldable pub has : ℕ → List Part → Bool
 has j xs = any (λ x. eqb (x .number) j) xs
-
--- ---- behind one, and up to one
 
 -- ---- children_between
 
@@ -63,6 +62,11 @@ aroundAt (some n) xs = foreignAt n
 pub record Beside (image index : List ℕ) (x : Around) (r : Notes) : Type 0 where
   pub region : Region image index (r .from) (r .to)
   pub read : x ≡ aroundAt (found (r .foreign)) (allOf notes (partsFrom image index (r .from) (r .to)))
+
+-- r is what f gives of a part x with number e, if any, and the siblings from a on that begin before b
+abbrev pub BesideIn : (Option Part → List Part → Around) → Lent → Lent → Option ℕ → ℕ → ℕ → Notes → Type 0
+BesideIn f image index e a b r =
+    (x : Option Part) → numberOf x ≡ e → Beside (image .entry .now) (index .entry .now) (f x (partsFrom (image .entry .now) (index .entry .now) a b)) r
 
 -- trivia, a custom error or a separator: what a strict reading takes or skips
 unfoldable pub isKept : ℕ → Bool

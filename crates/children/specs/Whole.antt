@@ -42,9 +42,3 @@ readingOf (Gaps.child g x gs) = readFrom (childAt g x) gs
 unfoldable pub sumsOf : Reading → Sums
 sumsOf (foreign n) = foreignAt n
 sumsOf (read cs e) = sums (length cs) (anyManyLines cs) (e .blankLine) (e .trivia)
-
--- ---- no inline trivia before the first child
-
--- ---- the reading
-
--- ---- what it comes to

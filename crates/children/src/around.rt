@@ -8,13 +8,11 @@ use tree::access::kind_at;
 use tree::class::Class;
 use tree::class::is;
 ghost use mathlib.Core.Path.{_≡_};
-ghost use mathlib.Core.Option.{Option, none};
-ghost use Rattle.tree.specs.Tree.{Part};
+ghost use mathlib.Core.Option.{none};
 ghost use Rattle.tree.specs.Answer.{found};
-ghost use Rattle.tree.specs.Class.{numberOf};
 ghost use Rattle.tree.specs.Index.{partsFrom, Region};
 ghost use Rattle.children.specs.Reading.{strict, triviaBefore, triviaAfter};
-ghost use Rattle.children.specs.Between.{Beside, Ends, Led, isKept, foreignIn};
+ghost use Rattle.children.specs.Between.{Beside, Ends, Led, isKept, foreignIn, BesideIn};
 
 // The trivia and custom errors from one element up to another, unless a foreign element stands there.
 pub struct Notes {
@@ -79,7 +77,7 @@ fn leading_end(image: &[u8], index: &[u32], a: u32, b: u32) -> u32
 // The trivia before an expression among the elements from a on that begin before b; without one, the trivia that comes first.
 pub fn trivia_before(image: &[u8], index: &[u32], e: Found, a: u32, b: u32) -> Notes
     requires { ⌜ Ends (now image) (now index) a b (found e) none ⌝ }
-    ensures { λ r. ⌜ ((x : Option Part) → numberOf x ≡ found e → Beside (now (image .entry)) (now (index .entry)) (triviaBefore x (partsFrom (now (image .entry)) (now (index .entry)) a b)) r) ⌝ }
+    ensures { λ r. ⌜ BesideIn triviaBefore image index (found e) a b r ⌝ }
 {
     match e {
         Found::At(x) => strict_notes(image, index, a, x.0),
@@ -97,7 +95,7 @@ pub fn trivia_before(image: &[u8], index: &[u32], e: Found, a: u32, b: u32) -> N
 // The trivia behind an expression among the elements from a on that begin before b; without one, nothing.
 pub fn trivia_after(image: &[u8], index: &[u32], e: Found, a: u32, b: u32) -> Notes
     requires { ⌜ Ends (now image) (now index) a b (found e) none ⌝ }
-    ensures { λ r. ⌜ ((x : Option Part) → numberOf x ≡ found e → Beside (now (image .entry)) (now (index .entry)) (triviaAfter x (partsFrom (now (image .entry)) (now (index .entry)) a b)) r) ⌝ }
+    ensures { λ r. ⌜ BesideIn triviaAfter image index (found e) a b r ⌝ }
 {
     match e {
         Found::At(x) => strict_notes(image, index, end_at(index, x.0), b),

@@ -12,14 +12,12 @@ use children::newlines::waiting_newlines;
 use children::survey::Outline;
 use children::survey::survey;
 use children::survey::survey_after;
-use tree::Tested;
 use tree::access::end_at;
 use tree::access::kind_at;
 use tree::class::Class;
 use tree::class::Kinds;
 use tree::class::is;
 use tree::class::kinds_of;
-ghost use mathlib.Core.Path.{_≡_};
 ghost use mathlib.Core.Bool.{true};
 ghost use Prim.Native.Nat.{_<_, _≤_};
 ghost use lib.ListN.{length};
@@ -172,21 +170,6 @@ fn trailing(image: &[u8], table: &[u32], loose: bool, a: u32, b: u32, h: u32) ->
     mix_walk(image, table, w, loose, next, b, mix_inline(table, next, m))
 }
 
-// The image passed the tests, and the table holds its index.
-fn indexed(image: &[u8], table: &mut [u32]) -> bool
-    ensures { λ r. ⌜ (r ≡ true → Indexed (now (image .entry)) (now (table .exit))) ⌝ }
-{
-    let t = tree::refusal(image);
-    let Tested::Accepted { elements, bytes: _ } = t else {
-        return false;
-    };
-    if table.len() < (elements as usize) * 3 + 3 {
-        return false;
-    }
-    tree::index::index(image, table);
-    true
-}
-
 // The four readings of the children of the first element, behind what the digests hold.
 fn answers(image: &[u8], table: &[u32], d: Digests) -> Digests
     requires { ⌜ Indexed (now image) (now table) ⌝ }
@@ -208,7 +191,7 @@ fn answers(image: &[u8], table: &[u32], d: Digests) -> Digests
 // The same from an image. One that is refused leaves the digests as they are, so that they are not those that are stored.
 fn answered(image: &[u8], d: Digests) -> Digests {
     let mut table = [0u32; TABLE];
-    if !indexed(image, &mut table) {
+    if !tree::index::try_index(image, &mut table) {
         return d;
     }
     answers(image, &table, d)

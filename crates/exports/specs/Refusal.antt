@@ -1,4 +1,5 @@
 -- What the exported function on refusals answers.
+use mathlib.Core.List.{List, [], _∷_}
 use Prim.Native.Nat.{ℕ}
 use Rattle.tree.specs.Answer.{Answer, refused, passed}
 
@@ -16,3 +17,7 @@ firstValue (passed n b) = n
 unfoldable pub secondValue : Answer → ℕ
 secondValue (refused r) = 0
 secondValue (passed n b) = b
+
+-- both, as they stand in the lent values
+abbrev pub bothValues : Answer → List ℕ
+bothValues a = firstValue a ∷ secondValue a ∷ []

@@ -9,11 +9,10 @@ ghost use mathlib.Core.Path.{_≡_};
 ghost use Rattle.items.specs.Item.{says};
 ghost use Rattle.comments.specs.Comments.{comment};
 ghost use Rattle.comments.specs.Place.{place};
-ghost use mathlib.Core.List.{[], _∷_};
 ghost use lib.Seq.{sets};
 ghost use Rattle.tree.specs.Answer.{said, answer};
 ghost use Rattle.exports.specs.Comment.{location, code, countsAfter, PrintingIn};
-ghost use Rattle.exports.specs.Refusal.{number, firstValue, secondValue};
+ghost use Rattle.exports.specs.Refusal.{number, firstValue, secondValue, bothValues};
 
 // The numbers of the places; any other number is the last of them, after all items.
 const ABOVE_ITEM: u32 = 0;
@@ -95,7 +94,7 @@ fn say(t: Tested) -> Verdict
 #[no_mangle]
 pub extern "C" fn tungvesk_refusal(image: &[u8], values: &mut [u32; 2]) -> u32
     ensures { λ r. ⌜ r ≡ number (answer (now (image .entry))) ⌝ }
-    ensures { λ _. ⌜ now (values .exit) ≡ sets (now (values .entry)) 0 (firstValue (answer (now (image .entry))) ∷ secondValue (answer (now (image .entry))) ∷ []) ⌝ }
+    ensures { λ _. ⌜ now (values .exit) ≡ sets (now (values .entry)) 0 (bothValues (answer (now (image .entry)))) ⌝ }
 {
     let v = say(tree::refusal(image));
     values[0] = v.1;

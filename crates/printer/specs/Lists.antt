@@ -4,7 +4,6 @@ use mathlib.Core.List.{List}
 use Prim.Native.Nat.{ℕ, _+_, _*_}
 use Prim.Native.String.{String}
 use lib.Dec.{leb}
-use Rattle.text.specs.Lent.{Lent}
 use Rattle.items.specs.Item.{Test, newline, mark, group, groupEnd, block, blockEnd, runEnd, again, ifTest, elseItem, endIf, Print, _⨟_, none, say, lit, when, openRun}
 use Rattle.tree.specs.declared.class.Class.{Class}
 use Rattle.tree.specs.declared.class.Class.the-variants.{Expr, Member, LBrack, RBrack, LBrace, RBrace}
@@ -13,7 +12,6 @@ use Rattle.children.specs.Comments.{comments}
 use Rattle.children.specs.Gaps.{Gap, newlinesAt}
 use Rattle.children.specs.Reading.{Ending}
 use Rattle.children.specs.Spans.{gapAt}
-use Rattle.children.specs.declared.gap.Span.{Span}
 use Rattle.children.specs.declared.survey.Outline.{Outline}
 use Rattle.printer.specs.declared.lists.Style.{Style}
 use Rattle.printer.specs.declared.lists.Style.the-variants.{Elements, Arguments, Members, Specs, Binds}
@@ -44,10 +42,6 @@ above a = newlineIf (a .had && leb 2 (newlinesAt a)) ⨟ comments (a .waiting) a
 -- what follows a child, from the gap behind it: f on its line, its comments, and g behind them
 unfoldable pub following : (Bool → Print) → (Bool → Print) → Gap → Bool → Print
 following f g b m = f m ⨟ comments (b .inline) itemInline ⨟ g m
-
--- a gap of a lent image and its lent index
-abbrev pub gapIn : Lent → Lent → Span → Gap
-gapIn image index s = gapAt (image .entry .now) (index .entry .now) s
 
 -- what is behind the last child, from what a survey says
 abbrev pub endingOf : List ℕ → List ℕ → Outline → Ending

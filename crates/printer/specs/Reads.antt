@@ -6,7 +6,6 @@ use mathlib.Core.List.{List, []}
 use Prim.Native.Nat.{ℕ, _+_, _<_, _≤_}
 use lib.Dec.{eqb}
 use Rattle.items.specs.Item.{Print}
-use Rattle.text.specs.Lent.{Lent}
 use Rattle.tree.specs.Tree.{Part}
 use Rattle.tree.specs.declared.class.Class.{Class}
 use Rattle.tree.specs.declared.class.Kinds.{Kinds}
@@ -50,10 +49,6 @@ pub record Within (image index : List ℕ) (i : ℕ) (z : Bounds) : Type 0 where
 -- the reading of a class between two places
 abbrev pub readAt : List ℕ → List ℕ → Class → Bounds → Option (List Part) → Reading
 readAt image index c z trailing = pass c (z .loose) (partsFrom image index (z .from) (z .to)) (start trailing)
-
--- the same of a lent image and its lent index
-abbrev pub readIn : Lent → Lent → Class → Bounds → Option (List Part) → Reading
-readIn image index c z trailing = readAt (image .entry .now) (index .entry .now) c z trailing
 
 -- No foreign element stands in a reading.
 pub record Whole (r : Reading) : Type 0 where

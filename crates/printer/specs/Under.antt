@@ -3,7 +3,6 @@ use mathlib.Core.List.{List}
 use Prim.Native.Nat.{ℕ, suc, _+_, _<_}
 use lib.ListN.{drop}
 use Rattle.items.specs.Item.{Print}
-use Rattle.text.specs.Lent.{Lent}
 use Rattle.tree.specs.Tree.{Forest, Part, countN, elementsOf, forest, texts, parts}
 use Rattle.tree.specs.Image.{kindIn, levelIn, textIn}
 use Rattle.tree.specs.Index.{endAt, partsFrom, Indexed, Child}
@@ -26,13 +25,6 @@ printOf image i = element (under image i) (kindIn image i) i (textIn image i) (t
 abbrev pub partsOf : List ℕ → List ℕ → ℕ → List Part
 partsOf image index i = partsFrom image index (i + 1) (endAt index i)
 
--- the same of a lent image and its lent index, as a contract names them
-abbrev pub partsIn : Lent → Lent → ℕ → List Part
-partsIn image index i = partsOf (image .entry .now) (index .entry .now) i
-
-abbrev pub underIn : Lent → ℕ → ℕ → Print
-underIn image i = under (image .entry .now) i
-
 -- Element i of an image with its index.
 pub record At (image index : List ℕ) (i : ℕ) : Type 0 where
   pub indexed : Indexed image index
@@ -43,7 +35,3 @@ pub record Kid (image index : List ℕ) (i j : ℕ) : Type 0 where
   pub at : At image index i
   pub child : Child image i j
   pub before : j < endAt index i
-
--- ---- an element's text
-
--- ---- laws

@@ -37,8 +37,6 @@ unstopped (G.stopped n) = false
 unstopped (G.ending g) = true
 unstopped (G.Gaps.child g x gs) = unstopped gs
 
--- ---- what a reading is, from a child on
-
 -- ---- children with their comments
 
 -- What is printed around children: f m follows a child on its line, g m stands behind that; m: more children follow.
@@ -59,8 +57,6 @@ module _ (pr : ℕ → Print) (f g : Bool → Print) where
   walkedAfter ts (G.ending k) = none
   walkedAfter ts (G.Gaps.child k x gs) = around (gapOf [] ts false) (x .number) (frontOf gs) (hasChild gs) ⨟ walked gs
 
--- ---- children without their comments
-
 -- ---- what a survey says
 
 -- A survey's outline of a reading that comes to its end.
@@ -78,5 +74,3 @@ pub record Outlined (image index : List ℕ) (r : Reading) (o : Outline) : Type 
 -- The reading from the span s on comes to its end.
 pub record Through (image index : List ℕ) (w : Kinds) (loose : Bool) (b : ℕ) (s : Span) : Type 0 where
   pub ends : unstopped (spanned image index w loose b s) ≡ true
-
--- ---- the first step of a walk with a trailing list

@@ -21,18 +21,14 @@ use printers::part;
 use tree::Found;
 use tree::access::end_at;
 use tree::class::Class;
-ghost use Rattle.items.specs.Item.{newline, _⨟_, say, lit};
 ghost use Rattle.items.specs.Machine.{PrintsIn};
-ghost use Rattle.comments.specs.Comments.{aboveItem, endOfItems};
 ghost use Rattle.tree.specs.Tree.{treeOf};
 ghost use Rattle.tree.specs.Answer.{found};
-ghost use Rattle.tree.specs.Class.{allOf};
-ghost use Rattle.tree.specs.Index.{Indexed, Region, partsFrom};
-ghost use Rattle.children.specs.Comments.{comments};
-ghost use Rattle.children.specs.Stretch.{notes};
+ghost use Rattle.tree.specs.Index.{Indexed, Region};
 ghost use Rattle.printer.specs.Print.{sourceFile};
-ghost use Rattle.printer.specs.Under.{At, under, partsOf};
-ghost use Rattle.printer.specs.Reads.{numberOr, Has};
+ghost use Rattle.printer.specs.Under.{At, partsOf};
+ghost use Rattle.printer.specs.Reads.{Has};
+ghost use Rattle.printer.specs.Contracts.{wholeIn};
 
 // The root of the tree.
 const ROOT: u32 = 0;
@@ -79,7 +75,7 @@ fn print_whole(
     requires { ⌜ Has (partsOf (now image) (now index) 0) (found e) ⌝ }
     requires { ⌜ Region (now image) (now index) (before .from) (before .to) ⌝ }
     requires { ⌜ Region (now image) (now index) (after .from) (after .to) ⌝ }
-    ensures { λ r. ⌜ PrintsIn records texts p r ((comments (allOf notes (partsFrom (now (image .entry)) (now (index .entry)) (before .from) (before .to))) aboveItem) ⨟ numberOr (under (now (image .entry)) 0) (lit "/*missing Expr*/") (found e) ⨟ say newline ⨟ (comments (allOf notes (partsFrom (now (image .entry)) (now (index .entry)) (after .from) (after .to))) endOfItems)) ⌝ }
+    ensures { λ r. ⌜ PrintsIn records texts p r (wholeIn image index before (found e) after) ⌝ }
 {
     let q = print_notes(
         records,

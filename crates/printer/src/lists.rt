@@ -39,7 +39,8 @@ ghost use Rattle.items.specs.Machine.{PrintsIn};
 ghost use Rattle.children.specs.Spans.{Lies};
 ghost use Rattle.printer.specs.Combine.{newlineIf, onlyIf, comma, separator, ending, testOf};
 ghost use Rattle.printer.specs.Rows.{wordAt, Word, wordCount};
-ghost use Rattle.printer.specs.Lists.{gapIn, onLine, behindIt, above, following, endingOf, openList, endBody, repeatBody, closeBracket, closeList, closeArguments, openerOf, closerOf, childOf, emptyText, openText, closeText};
+ghost use Rattle.printer.specs.Lists.{onLine, behindIt, above, openList, endBody, repeatBody, closeBracket, closeList, closeArguments, openerOf, closerOf, childOf, emptyText, openText, closeText};
+ghost use Rattle.printer.specs.Contracts.{gapIn, endingIn, followingIn};
 
 // The kinds of lists: elements of an array or members of an object; arguments; members of an object comprehension, and its
 // CompSpecs; binds.
@@ -184,7 +185,7 @@ pub fn print_behind(
     p: Printed,
 ) -> Printed
     requires { ⌜ Lies (now image) (now index) g ⌝ }
-    ensures { λ r. ⌜ PrintsIn records texts p r (following (onLine style (conditionTest t)) (behindIt style (conditionTest t)) (gapIn image index g) (eqb (g .end) 0)) ⌝ }
+    ensures { λ r. ⌜ PrintsIn records texts p r (followingIn image index style t g) ⌝ }
 {
     let more = g.end == AT_CHILD;
     let a = on_line(records, texts, style, t, more, p);
@@ -210,7 +211,7 @@ pub fn print_ending(
     p: Printed,
 ) -> Printed
     requires { ⌜ Lies (now image) (now index) (o .last) ⌝ }
-    ensures { λ r. ⌜ PrintsIn records texts p r (ending (endingOf (now (image .entry)) (now (index .entry)) o)) ⌝ }
+    ensures { λ r. ⌜ PrintsIn records texts p r (ending (endingIn image index o)) ⌝ }
 {
     let a = newline_if(records, texts, o.blank, p);
     let last = o.last;
@@ -309,7 +310,7 @@ pub fn close_list(
 ) -> Printed
     requires { ⌜ bracket < wordCount ⌝ }
     requires { ⌜ Lies (now image) (now index) (o .last) ⌝ }
-    ensures { λ r. ⌜ PrintsIn records texts p r (closeList (wordAt bracket) (k .0) (endingOf (now (image .entry)) (now (index .entry)) o)) ⌝ }
+    ensures { λ r. ⌜ PrintsIn records texts p r (closeList (wordAt bracket) (k .0) (endingIn image index o)) ⌝ }
 {
     let a = print_signal(records, texts, Signal::FinishGroup, p);
     let b = print_ending(records, texts, image, index, o, a);
@@ -333,7 +334,7 @@ pub fn close_arguments(
 ) -> Printed
     requires { ⌜ bracket < wordCount ⌝ }
     requires { ⌜ Lies (now image) (now index) (o .last) ⌝ }
-    ensures { λ r. ⌜ PrintsIn records texts p r (closeArguments (wordAt bracket) (k .0) (endingOf (now (image .entry)) (now (index .entry)) o)) ⌝ }
+    ensures { λ r. ⌜ PrintsIn records texts p r (closeArguments (wordAt bracket) (k .0) (endingIn image index o)) ⌝ }
 {
     let a = end_body(records, texts, k, p);
     let b = print_signal(records, texts, Signal::NewLine, a);
@@ -451,7 +452,7 @@ pub fn close_binds(
     p: Printed,
 ) -> Printed
     requires { ⌜ Lies (now image) (now index) (o .last) ⌝ }
-    ensures { λ r. ⌜ PrintsIn records texts p r (ending (endingOf (now (image .entry)) (now (index .entry)) o) ⨟ say outdent) ⌝ }
+    ensures { λ r. ⌜ PrintsIn records texts p r (ending (endingIn image index o) ⨟ say outdent) ⌝ }
 {
     let a = print_ending(records, texts, image, index, o, p);
     print_signal(records, texts, Signal::FinishIndent, a)

@@ -20,13 +20,12 @@ ghost use Rattle.text.specs.Basic.{any, orElse};
 ghost use Rattle.tree.specs.Answer.{found};
 ghost use Rattle.tree.specs.declared.class.Class.the-variants.{MemberComp, LBrace, RBrace};
 ghost use Rattle.tree.specs.Class.{nth, first, last, numberOf};
-ghost use Rattle.tree.specs.Index.{endAt};
-ghost use Rattle.children.specs.Between.{Bounded};
 ghost use Rattle.printer.specs.Layout;
 ghost use Rattle.printer.specs.Layout.{asked};
 ghost use Rattle.printer.specs.Rows.{wantAt, wanted, pieceOf, wantCount};
-ghost use Rattle.printer.specs.Under.{At, partsIn};
+ghost use Rattle.printer.specs.Under.{At};
 ghost use Rattle.printer.specs.Reads.{partFor};
+ghost use Rattle.printer.specs.Contracts.{partsIn, firstIn, BoundedIn};
 
 // The place behind element i, where its children begin.
 pub fn first_in(image: &[u8], index: &[u32], i: u32) -> u32
@@ -101,7 +100,7 @@ pub fn part_of(image: &[u8], index: &[u32], i: u32, x: Entry) -> Found
 // The reading between the first tokens of two classes.
 pub fn enclosed(image: &[u8], index: &[u32], i: u32, opening: Class, closing: Class) -> Bounds
     requires { ⌜ At (now image) (now index) i ⌝ }
-    ensures { λ r. ⌜ Bounded (now (image .entry)) (now (index .entry)) (i + 1) (endAt (now (index .entry)) i) (numberOf (first opening (partsIn image index i))) (numberOf (first closing (partsIn image index i))) r ⌝ }
+    ensures { λ r. ⌜ BoundedIn image index i (firstIn image index i opening) (firstIn image index i closing) r ⌝ }
 {
     let start = first_of(image, index, i, opening);
     let end = first_of(image, index, i, closing);
@@ -112,7 +111,7 @@ pub fn enclosed(image: &[u8], index: &[u32], i: u32, opening: Class, closing: Cl
 // The second reading of an object comprehension, of its CompSpecs.
 pub fn spec_bounds(image: &[u8], index: &[u32], i: u32) -> Bounds
     requires { ⌜ At (now image) (now index) i ⌝ }
-    ensures { λ r. ⌜ Bounded (now (image .entry)) (now (index .entry)) (i + 1) (endAt (now (index .entry)) i) (numberOf (orElse (last MemberComp (partsIn image index i)) (first LBrace (partsIn image index i)))) (numberOf (first RBrace (partsIn image index i))) r ⌝ }
+    ensures { λ r. ⌜ BoundedIn image index i (numberOf (orElse (last MemberComp (partsIn image index i)) (first LBrace (partsIn image index i)))) (firstIn image index i RBrace) r ⌝ }
 {
     let a = first_in(image, index, i);
     let b = end_at(index, i);

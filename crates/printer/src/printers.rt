@@ -70,24 +70,23 @@ ghost use mathlib.Core.Path.{_≡_};
 ghost use mathlib.Core.Option.{none, some};
 ghost use mathlib.Core.List.{[], _∷_};
 ghost use Prim.Native.Nat.{_<_};
-ghost use lib.Dec.{eqb};
 ghost use lib.ListN.{length};
-ghost use Rattle.items.specs.Item.{text, newline, _⨟_, say, lit, when, conditionTest};
+ghost use Rattle.items.specs.Item.{text, newline, _⨟_, say, lit};
 ghost use Rattle.items.specs.Machine.{PrintsIn};
 ghost use Rattle.tree.specs.Answer.{found};
 ghost use Rattle.tree.specs.declared.class.Class.the-variants.{ExprBase, Arg, LParen, RParen, Member, CompSpec, Bind, Local, Semi};
 ghost use Rattle.tree.specs.Class.{kinds, first};
-ghost use Rattle.tree.specs.Index.{kindAt, textAt, partAt};
+ghost use Rattle.tree.specs.Index.{kindAt, textAt};
 ghost use Rattle.children.specs.Reading.{enclosed};
-ghost use Rattle.children.specs.Spans.{Lies, gapAt, spanned};
+ghost use Rattle.children.specs.Spans.{Lies, gapAt};
 ghost use Rattle.printer.specs.declared.lists.Style.the-variants.{Specs};
-ghost use Rattle.printer.specs.Layout.{asked, layout};
-ghost use Rattle.printer.specs.Print.{eachOf, what, row, children, list, arguments, compOf, comprehension, localOf, valuesOf, expression};
-ghost use Rattle.printer.specs.Rows.{wordAt, wordOrNone, wantAt, pieceAt, wordCount, wantCount, pieceCount};
-ghost use Rattle.printer.specs.Lists.{onLine, behindIt, gapIn, openerOf, closerOf, childOf, emptyText, openText, closeText};
-ghost use Rattle.printer.specs.Under.{At, Kid, partsIn, underIn, printOf, partsOf};
-ghost use Rattle.printer.specs.Walked.{around, walked, Outlined};
-ghost use Rattle.printer.specs.Reads.{numberOr, Has, Within, readAt, readIn, Whole, kidsIn, Walks};
+ghost use Rattle.printer.specs.Layout.{layout};
+ghost use Rattle.printer.specs.Print.{what, row, children, list, arguments, compOf, comprehension, localOf, valuesOf, expression};
+ghost use Rattle.printer.specs.Rows.{wordOrNone, pieceAt, wordCount, wantCount, pieceCount};
+ghost use Rattle.printer.specs.Under.{At, Kid, printOf, partsOf};
+ghost use Rattle.printer.specs.Walked.{Outlined};
+ghost use Rattle.printer.specs.Reads.{numberOr, Has, Within, readAt, Whole, kidsIn, Walks};
+ghost use Rattle.printer.specs.Contracts.{partsIn, underIn, gapIn, readIn, partIn, pieceIn, eachIn, childrenIn, walkedIn, aroundIn, listIn};
 
 // A token, or all tokens of a node joined.
 fn token(
@@ -225,7 +224,7 @@ fn piece(
 ) -> Printed
     requires { ⌜ At (now image) (now index) i ⌝ }
     requires { ⌜ n < pieceCount ⌝ }
-    ensures { λ r. ⌜ PrintsIn records texts p r (when (asked (partsIn image index i) (pieceAt n)) (what (underIn image i) (partsIn image index i) (pieceAt n .what))) ⌝ }
+    ensures { λ r. ⌜ PrintsIn records texts p r (pieceIn image index i (pieceAt n)) ⌝ }
 {
     let x = entry_at(n);
     if !is_asked(image, index, i, x) {
@@ -276,7 +275,7 @@ fn each(
     requires { ⌜ At (now image) (now index) i ⌝ }
     requires { ⌜ x .want < wantCount ⌝ }
     requires { ⌜ x .word < wordCount ⌝ }
-    ensures { λ r. ⌜ PrintsIn records texts p r (eachOf (underIn image i) (wantAt (x .want) .class) (wordAt (x .word)) (eqb (x .what) 6) (partsIn image index i)) ⌝ }
+    ensures { λ r. ⌜ PrintsIn records texts p r (eachIn image i x (partsIn image index i)) ⌝ }
 {
     let end = end_at(index, i);
     let mut j = first_in(image, index, i);
@@ -302,7 +301,7 @@ fn one(
     requires { ⌜ Kid (now image) (now index) i j ⌝ }
     requires { ⌜ x .want < wantCount ⌝ }
     requires { ⌜ x .word < wordCount ⌝ }
-    ensures { λ r. ⌜ PrintsIn records texts p r (eachOf (underIn image i) (wantAt (x .want) .class) (wordAt (x .word)) (eqb (x .what) 6) (partAt (now (image .entry)) (now (index .entry)) j ∷ [])) ⌝ }
+    ensures { λ r. ⌜ PrintsIn records texts p r (eachIn image i x (partIn image index j ∷ [])) ⌝ }
 {
     if !is(kinds_wanted(x.want), kind_at(index, j)) {
         return p;
@@ -387,7 +386,7 @@ fn kids(
     p: Printed,
 ) -> Printed
     requires { ⌜ Walks (now image) (now index) i (kinds c) loose b first ⌝ }
-    ensures { λ r. ⌜ PrintsIn records texts p r (walked (underIn image i) (onLine style (conditionTest t)) (behindIt style (conditionTest t)) (spanned (now (image .entry)) (now (index .entry)) (kinds c) loose b first)) ⌝ }
+    ensures { λ r. ⌜ PrintsIn records texts p r (walkedIn image index i style t c loose b first) ⌝ }
 {
     let w = kinds_of(c);
     let mut s = first;
@@ -415,7 +414,7 @@ fn items(
 ) -> Printed
     requires { ⌜ Within (now image) (now index) i z ⌝ }
     requires { ⌜ Whole (readAt (now image) (now index) c z none) ⌝ }
-    ensures { λ r. ⌜ PrintsIn records texts p r (children (underIn image i) (onLine style (conditionTest t)) (behindIt style (conditionTest t)) (kidsIn (readIn image index c z none))) ⌝ }
+    ensures { λ r. ⌜ PrintsIn records texts p r (childrenIn image i style t (kidsIn (readIn image index c z none))) ⌝ }
 {
     let w = kinds_of(c);
     let s = gap(image, index, w, z.loose, false, z.from, z.to);
@@ -452,7 +451,7 @@ fn child(
     requires { ⌜ Kid (now image) (now index) i j ⌝ }
     requires { ⌜ Lies (now image) (now index) s ⌝ }
     requires { ⌜ Lies (now image) (now index) g ⌝ }
-    ensures { λ r. ⌜ PrintsIn records texts p r (around (underIn image i) (onLine style (conditionTest t)) (behindIt style (conditionTest t)) (gapIn image index s) j (gapIn image index g) (eqb (g .end) 0)) ⌝ }
+    ensures { λ r. ⌜ PrintsIn records texts p r (aroundIn image index i style t s j g) ⌝ }
 {
     let a = print_above(records, texts, image, index, s, p);
     let b = node(records, texts, image, index, j, a);
@@ -470,7 +469,7 @@ fn list(
     p: Printed,
 ) -> Printed
     requires { ⌜ At (now image) (now index) i ⌝ }
-    ensures { λ r. ⌜ PrintsIn records texts p r (list (underIn image i) (emptyText l) (openText l) (closeText l) (enclosed (childOf l) (openerOf l) (closerOf l) (partsIn image index i))) ⌝ }
+    ensures { λ r. ⌜ PrintsIn records texts p r (listIn image index i l) ⌝ }
 {
     let z = enclosed(image, index, i, opener(l), closer(l));
     let c = child_class(l);
@@ -608,7 +607,7 @@ fn specs(
     requires { ⌜ Within (now image) (now index) i z ⌝ }
     requires { ⌜ Lies (now image) (now index) trailing ⌝ }
     requires { ⌜ Whole (readAt (now image) (now index) CompSpec z (some (gapAt (now image) (now index) trailing .waiting))) ⌝ }
-    ensures { λ r. ⌜ PrintsIn records texts p r (children (underIn image i) (onLine Specs (conditionTest t)) (behindIt Specs (conditionTest t)) (kidsIn (readIn image index CompSpec z (some (gapIn image index trailing .waiting))))) ⌝ }
+    ensures { λ r. ⌜ PrintsIn records texts p r (childrenIn image i Specs t (kidsIn (readIn image index CompSpec z (some (gapIn image index trailing .waiting))))) ⌝ }
 {
     let w = kinds_of(Class::CompSpec);
     let s = lead(image, index, w, z.loose, z.from, z.to);

@@ -1,15 +1,14 @@
 -- A search over the elements of an image, one element at a time.
 use mathlib.Core.Path.{_≡_, refl, _∙_, sym}
-use mathlib.Core.Bool.{Bool, true, false, cond, _&&_}
+use mathlib.Core.Bool.{Bool, true, false, cond}
 use mathlib.Core.Option.{Option, none, some}
 use mathlib.Core.List.{List}
 use Prim.Native.Nat.{ℕ, zero, suc, _+_, _-_, _<_, _≤_}
 use native.Mathlib.Omega.{arith}
-use lib.Dec.{eqb}
 use lib.ListN.{drop}
 use Rattle.tree.specs.Tree.{Element, countN, elementsOf}
-use Rattle.tree.specs.Image.{kindIn, levelIn, elementIn}
-use Rattle.tree.specs.Refusal.{firstWhere, misplaced, misplacedAfter, noIdent, firstNameless}
+use Rattle.tree.specs.Image.{elementIn}
+use Rattle.tree.specs.Refusal.{firstWhere, misplaced, misplacedAfter, firstNameless, namelessIn}
 use Rattle.tree.proofs.Elements.{elements-cons, elements-none}
 
 -- A search: it gives the first element whose test T holds.
@@ -24,7 +23,7 @@ where-search f image = record { over = rw (elements-none image (countN image) re
 
 -- the first Name without an identifier
 pub nameless-search : (image : List ℕ) → Search image (λ i. firstNameless (drop i (elementsOf image)))
-    (λ i. eqb (kindIn image i) 43 && noIdent (suc (levelIn image i)) (drop (i + 1) (elementsOf image)))
+    (namelessIn image)
 unfolding firstNameless
 nameless-search image = record { over = rw (elements-none image (countN image) refl); turn = λ i h. rw (elements-cons image i h) }
 

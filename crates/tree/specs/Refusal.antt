@@ -4,10 +4,11 @@ use mathlib.Core.Option.{Option, none, some}
 use mathlib.Core.List.{List, [], _∷_}
 use Prim.Native.Nat.{ℕ, suc, _+_, _*_}
 use lib.Dec.{leb, ltb, eqb}
-use lib.ListN.{length}
+use lib.ListN.{length, drop}
 use Rattle.text.specs.Basic.{ascii, within, sum, startsWith, orElse}
 use Rattle.text.specs.Text.{valid, endsWith}
 use Rattle.tree.specs.Tree.{Element, countN, countB, elementsOf}
+use Rattle.tree.specs.Image.{kindIn, levelIn}
 use Rattle.tree.specs.declared.refuse.Test.{Test}
 use Rattle.tree.specs.declared.refuse.Test.the-variants.{UnknownKind, NodeWithText, NotUtf8, StringBlock, Misformed}
 
@@ -76,13 +77,16 @@ notUtf8 e = isToken e && not (valid (e .text))
 unfoldable pub stringBlock : Element → Bool
 stringBlock e = eqb (e .kind) 82
 
--- 8: 'A `#` or `//` comment lacks its opening, or a multi-line comment is shorter than 4 bytes or lacks `/*` at its start or `*/` at its end'
+-- 8: 'a multi-line comment is shorter than 4 bytes or lacks `/*` at its start or `*/` at its end'
+abbrev pub misformedBlock : List ℕ → Bool
+misformedBlock s = ltb (length s) 4 || (not (startsWith (ascii "/*") s) || not (endsWith (ascii "*/") s))
+
+-- 8: 'A `#` or `//` comment lacks its opening, or a multi-line comment' is misformed
 unfoldable pub misformed : Element → Bool
 misformed e =
     (eqb (e .kind) 68 && not (startsWith (ascii "#") (e .text)))
     || ((eqb (e .kind) 69 && not (startsWith (ascii "//") (e .text)))
-    || (eqb (e .kind) 65
-    && (ltb (length (e .text)) 4 || (not (startsWith (ascii "/*") (e .text)) || not (endsWith (ascii "*/") (e .text))))))
+    || (eqb (e .kind) 65 && misformedBlock (e .text)))
 
 -- 9: no identifier among the elements of level l that begin in a run of elements
 unfoldable pub noIdent : ℕ → List Element → Bool
@@ -93,6 +97,10 @@ noIdent l (e ∷ es) = cond (ltb (e .level) l) true (not (eqb (e .level) l && eq
 unfoldable pub firstNameless : List Element → Option ℕ
 firstNameless [] = none
 firstNameless (e ∷ es) = cond (eqb (e .kind) 43 && noIdent (suc (e .level)) es) (some (e .number)) (firstNameless es)
+
+-- 9: element i, read at its place, is such a Name
+abbrev pub namelessIn : List ℕ → ℕ → Bool
+namelessIn image i = eqb (kindIn image i) 43 && noIdent (suc (levelIn image i)) (drop (i + 1) (elementsOf image))
 
 -- A refusal: 'the answer is the number and the first offending element'.
 pub record Refusal : Type 0 where

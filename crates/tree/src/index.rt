@@ -1,14 +1,16 @@
 // The index of the tree: kind, end of the subtree and start of the text of each element, and an entry more for the end.
 // Starts are places in the image, so that the image itself is handed to the accessors.
+use super::Tested;
 use super::access::END;
 use super::access::ENTRY;
 use super::access::START;
 use super::read;
 ghost use mathlib.Core.Path.{_≡_};
+ghost use mathlib.Core.Bool.{true};
 ghost use Prim.Native.Nat.{_+_, _*_, _<_};
 ghost use lib.ListN.{length, set};
 ghost use Rattle.tree.specs.Tree.{countN};
-ghost use Rattle.tree.specs.Index.{IndexedFrom, Indexable, Filled, endIn};
+ghost use Rattle.tree.specs.Index.{Indexed, IndexedFrom, Indexable, Filled, endIn};
 
 // Writes the entry of element i.
 fn put_entry(table: &mut [u32], i: u32, kind: u32, end: u32, start: u32)
@@ -56,4 +58,19 @@ pub fn index(image: &[u8], table: &mut [u32])
         let end = find_end(image, table, i);
         put_entry(table, i, kind, end, start);
     }
+}
+
+// The same of any image and table: writes the index if the image passes the tests and the table has room, and says whether.
+pub fn try_index(image: &[u8], table: &mut [u32]) -> bool
+    ensures { λ r. ⌜ (r ≡ true → Indexed (now (image .entry)) (now (table .exit))) ⌝ }
+{
+    let t = super::refusal(image);
+    let Tested::Accepted { elements, bytes: _ } = t else {
+        return false;
+    };
+    if table.len() < (elements as usize) * ENTRY + ENTRY {
+        return false;
+    }
+    index(image, table);
+    true
 }

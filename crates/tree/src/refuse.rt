@@ -6,16 +6,15 @@ use super::reader;
 use numbers::Element;
 use numbers::kind;
 ghost use mathlib.Core.Path.{_≡_};
-ghost use mathlib.Core.Bool.{not, _&&_, _||_};
+ghost use mathlib.Core.Bool.{not, _&&_};
 ghost use Prim.Native.Nat.{_+_, _<_, suc};
-ghost use lib.Dec.{eqb, ltb};
-ghost use lib.ListN.{length, drop};
-ghost use Rattle.text.specs.Basic.{sum, ascii, startsWith};
-ghost use Rattle.text.specs.Text.{endsWith};
+ghost use lib.Dec.{eqb};
+ghost use lib.ListN.{drop};
+ghost use Rattle.text.specs.Basic.{sum};
 ghost use Rattle.tree.specs.Tree;
 ghost use Rattle.tree.specs.Tree.{countN, elementsOf};
 ghost use Rattle.tree.specs.Image.{kindIn, levelIn, startIn, elementIn};
-ghost use Rattle.tree.specs.Refusal.{wrongLength, outOfLimits, firstWhere, unknownKind, misplaced, firstMisplaced, nodeWithText, wrongSizes, notUtf8, stringBlock, misformed, noIdent, firstNameless, testOf};
+ghost use Rattle.tree.specs.Refusal.{wrongLength, outOfLimits, firstWhere, unknownKind, misplaced, firstMisplaced, nodeWithText, wrongSizes, notUtf8, stringBlock, misformed, noIdent, firstNameless, testOf, misformedBlock, namelessIn};
 ghost use Rattle.tree.specs.Answer.{found};
 
 const MAX_ELEMENTS: u32 = 4096;
@@ -134,7 +133,7 @@ fn string_block_at(image: &[u8], i: u32) -> bool
 
 // A multi-line comment is shorter than 4 bytes or lacks its opening or its end.
 fn misformed_multi_line(s: &[u8]) -> bool
-    ensures { λ r. ⌜ r ≡ (ltb (length (now (s .entry))) 4 || (not (startsWith (ascii "/*") (now (s .entry))) || not (endsWith (ascii "*/") (now (s .entry))))) ⌝ }
+    ensures { λ r. ⌜ r ≡ misformedBlock (now (s .entry)) ⌝ }
 {
     let opened = text::starts_with(s, b"/*");
     let closed = text::ends_with(s, b"*/");
@@ -251,7 +250,7 @@ fn lacks_ident(image: &[u8], i: u32) -> bool
 // Element i is a Name without an identifier.
 fn nameless_at(image: &[u8], i: u32) -> bool
     requires { ⌜ i < countN (now image) ⌝ }
-    ensures { λ r. ⌜ r ≡ (eqb (kindIn (now (image .entry)) i) 43 && noIdent (suc (levelIn (now (image .entry)) i)) (drop (i + 1) (elementsOf (now (image .entry))))) ⌝ }
+    ensures { λ r. ⌜ r ≡ namelessIn (now (image .entry)) i ⌝ }
 {
     if read::kind_of(image, i) != kind::NAME {
         return false;

@@ -17,7 +17,6 @@ use numbers::refusal::number_of;
 use tree::Found;
 use tree::Tested;
 use tree::class::Kinds;
-ghost use mathlib.Core.Path.{_≡_};
 ghost use mathlib.Core.Bool.{true};
 ghost use Rattle.tree.specs.Index.{Indexed};
 
@@ -89,21 +88,6 @@ fn place(f: Found) -> usize {
     }
 }
 
-// The image passed the tests, and the table holds its index.
-fn indexed(image: &[u8], table: &mut [u32]) -> bool
-    ensures { λ r. ⌜ (r ≡ true → Indexed (now (image .entry)) (now (table .exit))) ⌝ }
-{
-    let t = tree::refusal(image);
-    let Tested::Accepted { elements, bytes: _ } = t else {
-        return false;
-    };
-    if table.len() < (elements as usize) * 3 + 3 {
-        return false;
-    }
-    tree::index::index(image, table);
-    true
-}
-
 // The table begins with these numbers, two bytes each.
 fn is_table(table: &[u32], want: &[u8]) -> bool {
     let mut i = 0;
@@ -148,7 +132,7 @@ fn agrees(op: u16, image: &[u8], args: &[u8], want: &[u8]) -> bool {
         return answers(image, want, 0);
     }
     let mut table = [0u32; TABLE];
-    if !indexed(image, &mut table) {
+    if !tree::index::try_index(image, &mut table) {
         return false;
     }
     if op == INDEX {

@@ -9,14 +9,14 @@ agrees-spec =
     (tie.spec
     (λ c κs. search needs)  -- answers-requires
     (λ c. search needs)  -- returns
-    (λ c. search needs)  -- slice-aggregate-indexed
-    (λ c κs. search needs)  -- indexed-requires
+    (λ c. search needs)  -- slice-aggregate-try-index
+    (λ c κs. search needs)  -- try-index-requires
     (λ c. search needs)  -- returns-2
     (λ c. search needs)  -- slice-aggregate-is-table
     (λ c κs. search needs)  -- is-table-requires
     (λ c. search needs)  -- returns-3
     (λ c. search needs)  -- slice-aggregate-found
-    (λ c κs. c .before .before .before .before .indexed .ensures (not-false _ (c .before .before .if2 .left)))  -- found-requires
+    (λ c κs. c .before .before .before .before .try-index .ensures (not-false _ (c .before .before .if2 .left)))  -- found-requires
     (λ c κs. search needs)  -- place-requires
     (λ c κs. search needs)  -- number-requires
     (λ c. search needs)  -- cast-result

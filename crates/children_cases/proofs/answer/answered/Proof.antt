@@ -7,10 +7,10 @@ pub answered-spec : {M : Type 1} → statement M
 answered-spec =
     tie.close
     (tie.spec
-    (λ c. search needs)  -- slice-aggregate-indexed
-    (λ c κs. search needs)  -- indexed-requires
+    (λ c. search needs)  -- slice-aggregate-try-index
+    (λ c κs. search needs)  -- try-index-requires
     (λ c. search needs)  -- returns
     (λ c. search needs)  -- slice-aggregate-answers
-    (λ c κs. c .before .before .before .indexed .ensures (not-false _ (c .before .if1 .left)))  -- answers-requires
+    (λ c κs. c .before .before .before .try-index .ensures (not-false _ (c .before .if1 .left)))  -- answers-requires
     (λ c. search needs)  -- returns-2
     )
