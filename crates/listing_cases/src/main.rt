@@ -161,7 +161,7 @@ const TWELVE: [u8; 12] = [116, 119, 101, 108, 118, 101, 32, 98, 121, 116, 101, 1
 
 // Writes a whole listing.
 fn print_listing(records: &[u32], texts: &[u8], c: Count)
-    requires { ⌜ Told (now records) (now texts) c ⌝ }
+    requires { ⌜ Listable (now records) (now texts) c ⌝ }
 {
     let n = listing::listing_length(c);
     let mut out = io::buffer();
@@ -171,7 +171,7 @@ fn print_listing(records: &[u32], texts: &[u8], c: Count)
 
 // Writes as much of a listing as 40 bytes take.
 fn print_beginning(records: &[u32], texts: &[u8], c: Count)
-    requires { ⌜ Told (now records) (now texts) c ⌝ }
+    requires { ⌜ Listable (now records) (now texts) c ⌝ }
 {
     let mut out = [0u8; 40];
     listing::write_listing(records, texts, c, &mut out);

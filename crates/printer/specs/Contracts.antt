@@ -1,16 +1,18 @@
 -- What contracts of printers name: parts, gaps, readings and printings of a lent image with its lent index.
 use mathlib.Core.Bool.{Bool}
-use mathlib.Core.Option.{Option}
+use mathlib.Core.Option.{Option, some}
 use mathlib.Core.List.{List}
 use Prim.Native.Nat.{ℕ, _+_}
 use lib.Dec.{eqb}
+use Rattle.text.specs.Basic.{orElse}
 use Rattle.text.specs.Lent.{Lent}
 use Rattle.items.specs.Item.{newline, Print, _⨟_, say, lit, when, conditionTest}
 use Rattle.items.specs.declared.Condition.{Condition}
 use Rattle.comments.specs.Comments.{aboveItem, endOfItems}
 use Rattle.tree.specs.Tree.{Part}
 use Rattle.tree.specs.declared.class.Class.{Class}
-use Rattle.tree.specs.Class.{kinds, first, numberOf, allOf}
+use Rattle.tree.specs.Class.{kinds, first, last, numberOf, allOf}
+use Rattle.tree.specs.declared.class.Class.the-variants.{MemberComp, LBrace}
 use Rattle.tree.specs.Index.{endAt, partAt, partsFrom}
 use Rattle.children.specs.declared.around.Notes.{Notes}
 use Rattle.children.specs.declared.between.Bounds.{Bounds}
@@ -66,6 +68,14 @@ readIn image index c z trailing = readAt (image .entry .now) (index .entry .now)
 -- r is where the reading of element i between a start and an end begins and ends
 abbrev pub BoundedIn : Lent → Lent → ℕ → Option ℕ → Option ℕ → Bounds → Type 0
 BoundedIn image index i s e r = Bounded (image .entry .now) (index .entry .now) (i + 1) (endAt (index .entry .now) i) s e r
+
+-- the start of the second reading of an object comprehension: its last member, or else its `{`
+abbrev pub specStartIn : Lent → Lent → ℕ → Option ℕ
+specStartIn image index i = numberOf (orElse (last MemberComp (partsIn image index i)) (first LBrace (partsIn image index i)))
+
+-- what waits in a gap, as the trailing list of a reading
+abbrev pub trailingIn : Lent → Lent → Span → Option (List Part)
+trailingIn image index s = some (gapIn image index s .waiting)
 
 -- ---- what is printed
 

@@ -16,16 +16,16 @@ use tree::is_nothing;
 use tree::or_else;
 ghost use mathlib.Core.Path.{_≡_};
 ghost use Prim.Native.Nat.{_+_, _<_};
-ghost use Rattle.text.specs.Basic.{any, orElse};
+ghost use Rattle.text.specs.Basic.{any};
 ghost use Rattle.tree.specs.Answer.{found};
-ghost use Rattle.tree.specs.declared.class.Class.the-variants.{MemberComp, LBrace, RBrace};
+ghost use Rattle.tree.specs.declared.class.Class.the-variants.{RBrace};
 ghost use Rattle.tree.specs.Class.{nth, first, last, numberOf};
 ghost use Rattle.printer.specs.Layout;
 ghost use Rattle.printer.specs.Layout.{asked};
 ghost use Rattle.printer.specs.Rows.{wantAt, wanted, pieceOf, wantCount};
 ghost use Rattle.printer.specs.Under.{At};
 ghost use Rattle.printer.specs.Reads.{partFor};
-ghost use Rattle.printer.specs.Contracts.{partsIn, firstIn, BoundedIn};
+ghost use Rattle.printer.specs.Contracts.{specStartIn, partsIn, firstIn, BoundedIn};
 
 // The place behind element i, where its children begin.
 pub fn first_in(image: &[u8], index: &[u32], i: u32) -> u32
@@ -111,7 +111,7 @@ pub fn enclosed(image: &[u8], index: &[u32], i: u32, opening: Class, closing: Cl
 // The second reading of an object comprehension, of its CompSpecs.
 pub fn spec_bounds(image: &[u8], index: &[u32], i: u32) -> Bounds
     requires { ⌜ At (now image) (now index) i ⌝ }
-    ensures { λ r. ⌜ BoundedIn image index i (numberOf (orElse (last MemberComp (partsIn image index i)) (first LBrace (partsIn image index i)))) (firstIn image index i RBrace) r ⌝ }
+    ensures { λ r. ⌜ BoundedIn image index i (specStartIn image index i) (firstIn image index i RBrace) r ⌝ }
 {
     let a = first_in(image, index, i);
     let b = end_at(index, i);

@@ -86,7 +86,7 @@ ghost use Rattle.printer.specs.Rows.{wordOrNone, pieceAt, wordCount, wan
 ghost use Rattle.printer.specs.Under.{At, Kid, printOf, partsOf};
 ghost use Rattle.printer.specs.Walked.{Outlined};
 ghost use Rattle.printer.specs.Reads.{numberOr, Has, Within, readAt, Whole, kidsIn, Walks};
-ghost use Rattle.printer.specs.Contracts.{partsIn, underIn, gapIn, readIn, partIn, pieceIn, eachIn, childrenIn, walkedIn, aroundIn, listIn};
+ghost use Rattle.printer.specs.Contracts.{trailingIn, partsIn, underIn, readIn, partIn, pieceIn, eachIn, childrenIn, walkedIn, aroundIn, listIn};
 
 // A token, or all tokens of a node joined.
 fn token(
@@ -607,7 +607,7 @@ fn specs(
     requires { ⌜ Within (now image) (now index) i z ⌝ }
     requires { ⌜ Lies (now image) (now index) trailing ⌝ }
     requires { ⌜ Whole (readAt (now image) (now index) CompSpec z (some (gapAt (now image) (now index) trailing .waiting))) ⌝ }
-    ensures { λ r. ⌜ PrintsIn records texts p r (childrenIn image i Specs t (kidsIn (readIn image index CompSpec z (some (gapIn image index trailing .waiting))))) ⌝ }
+    ensures { λ r. ⌜ PrintsIn records texts p r (childrenIn image i Specs t (kidsIn (readIn image index CompSpec z (trailingIn image index trailing)))) ⌝ }
 {
     let w = kinds_of(Class::CompSpec);
     let s = lead(image, index, w, z.loose, z.from, z.to);

@@ -18,5 +18,6 @@ mod Search
 pub mod Siblings
 mod Stepping
 mod Sums
+mod Tries
 mod Verdict
 pub mod Walk

@@ -1,11 +1,12 @@
 -- The index of a tree: for each element its kind, where its subtree ends and where in the image its text starts, and an entry more for the end.
 use mathlib.Core.Path.{_≡_}
-use mathlib.Core.Bool.{cond}
+use mathlib.Core.Bool.{Bool, true, cond, not, _&&_}
 use mathlib.Core.Option.{none}
 use mathlib.Core.List.{List, [], _∷_}
 use Prim.Native.Nat.{ℕ, zero, suc, _+_, _*_, _-_, _<_, _≤_}
-use lib.Dec.{ltb}
+use lib.Dec.{ltb, leb}
 use lib.ListN.{length, getD, take, drop}
+use Rattle.text.specs.Basic.{present}
 use Rattle.tree.specs.Tree.{Part, countN, Element, elementsOf}
 use Rattle.tree.specs.Image.{kindIn, placeIn, levelIn}
 use Rattle.tree.specs.Refusal.{refusal}
@@ -66,6 +67,15 @@ pub record Filled (image before after : List ℕ) : Type 0 where
   pub indexed : Indexed image after
   pub kept : drop (indexSize image) after ≡ drop (indexSize image) before
   pub sized : length after ≡ length before
+
+-- an image passed the tests 1 to 9, and a table has room for its index
+abbrev pub indexes : List ℕ → List ℕ → Bool
+indexes image table = not (present (refusal image)) && leb (indexSize image) (length table)
+
+-- A table after any image was tried on it, and whether its index was written.
+pub record Tried (image before after : List ℕ) (r : Bool) : Type 0 where
+  pub told : r ≡ indexes image before
+  pub filled : r ≡ true → Filled image before after
 
 -- the joined text of the tokens under element i
 unfoldable pub textAt : List ℕ → List ℕ → ℕ → List ℕ

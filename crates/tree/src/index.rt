@@ -6,11 +6,10 @@ use super::access::ENTRY;
 use super::access::START;
 use super::read;
 ghost use mathlib.Core.Path.{_≡_};
-ghost use mathlib.Core.Bool.{true};
 ghost use Prim.Native.Nat.{_+_, _*_, _<_};
 ghost use lib.ListN.{length, set};
 ghost use Rattle.tree.specs.Tree.{countN};
-ghost use Rattle.tree.specs.Index.{Indexed, IndexedFrom, Indexable, Filled, endIn};
+ghost use Rattle.tree.specs.Index.{IndexedFrom, Indexable, Filled, Tried, endIn};
 
 // Writes the entry of element i.
 fn put_entry(table: &mut [u32], i: u32, kind: u32, end: u32, start: u32)
@@ -62,7 +61,7 @@ pub fn index(image: &[u8], table: &mut [u32])
 
 // The same of any image and table: writes the index if the image passes the tests and the table has room, and says whether.
 pub fn try_index(image: &[u8], table: &mut [u32]) -> bool
-    ensures { λ r. ⌜ (r ≡ true → Indexed (now (image .entry)) (now (table .exit))) ⌝ }
+    ensures { λ r. ⌜ Tried (now (image .entry)) (now (table .entry)) (now (table .exit)) r ⌝ }
 {
     let t = super::refusal(image);
     let Tested::Accepted { elements, bytes: _ } = t else {

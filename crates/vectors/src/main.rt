@@ -11,12 +11,13 @@ ghost use Rattle.vectors.specs.Replies.{Replies};
 // Room for the file.
 const FILE: usize = 524_288;
 
-// An answer is counted by its number: 0 for a listing, that of a refusal, and one behind them if it is not the one in the file.
+// An answer is counted by its number: 0 for a listing, that of a refusal, and one that no refusal has if it is not the one in the
+// file.
 const REFUSALS: usize = 13;
 
-const DIFFERENT: usize = REFUSALS + 1;
+const DIFFERENT: usize = 255;
 
-const ANSWERS: usize = REFUSALS + 2;
+const ANSWERS: usize = 256;
 
 // The number of the answer for an image, if it is the expected one byte for byte.
 fn replied(image: &[u8], want: &[u8]) -> usize

@@ -16,7 +16,7 @@ agrees-spec =
     (λ c κs. search needs)  -- is-table-requires
     (λ c. search needs)  -- returns-3
     (λ c. search needs)  -- slice-aggregate-found
-    (λ c κs. c .before .before .before .before .try-index .ensures (not-false _ (c .before .before .if2 .left)))  -- found-requires
+    (λ c κs. c .before .before .before .before .try-index .ensures .filled (not-false _ (c .before .before .if2 .left)) .indexed)  -- found-requires
     (λ c κs. search needs)  -- place-requires
     (λ c κs. search needs)  -- number-requires
     (λ c. search needs)  -- cast-result

@@ -11,6 +11,6 @@ answered-spec =
     (λ c κs. search needs)  -- try-index-requires
     (λ c. search needs)  -- returns
     (λ c. search needs)  -- slice-aggregate-answers
-    (λ c κs. c .before .before .before .try-index .ensures (not-false _ (c .before .if1 .left)))  -- answers-requires
+    (λ c κs. c .before .before .before .try-index .ensures .filled (not-false _ (c .before .if1 .left)) .indexed)  -- answers-requires
     (λ c. search needs)  -- returns-2
     )

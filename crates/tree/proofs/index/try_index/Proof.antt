@@ -1,14 +1,8 @@
-use mathlib.Core.Bool.{false≢true}
 use borrow.Author.Needs.{needs}
 use Rattle.tree.proofs.Children.{indexable}
+use Rattle.tree.proofs.Tries.{tried-refused, tried-short, tried-filled}
 use Rattle.tree.proofs.index.try_index.Statement.{statement}
 use Rattle.tree.proofs.index.try_index.Tie as tie
-
-returns : tie.Need-returns
-returns c q = absurd (false≢true q)
-
-returns-2 : tie.Need-returns-2
-returns-2 c q = absurd (false≢true q)
 
 pub try-index-spec : {M : Type 1} → statement M
 try-index-spec =
@@ -17,12 +11,12 @@ try-index-spec =
     (λ c κs. search needs)  -- refusal-requires
     (λ c. search needs)  -- enum-known-t
     (λ c. search needs)  -- enum-told
-    returns  -- returns
+    (λ c. search tried-refused)  -- returns
     (λ c. search needs)  -- cast-if1
     (λ c. search needs)  -- mul-if1
     (λ c. search needs)  -- add-if1
-    returns-2  -- returns-2
+    (λ c. tried-short (c .before .before .before .before .refusal .ensures) (c .before .before .t .given .1) (c .if1 .taken))  -- returns-2
     (λ c κs. indexable (c .before .before .before .before .before .refusal .ensures) (c .before .before .before .t .given .1) (c .before .if1 .left))  -- index-requires
     (λ c. c .before .before .index .ensures .sized)  -- same-length
-    (λ c q. c .before .before .index .ensures .indexed)  -- returns-3
+    (λ c. let d = c .before .before .before .before in tried-filled (d .before .before .before .before .refusal .ensures) (d .before .before .t .given .1) (d .if1 .left) (c .before .before .index .ensures))  -- returns-3
     )
