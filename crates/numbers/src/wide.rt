@@ -1,10 +1,10 @@
 // Numbers in wider types. `from_u8(b[i])` asks of a proof the place only, where `b[i] as u32` asks too that the number fits.
 ghost use mathlib.Core.Path.{_≡_};
 
-pub fn from_u8(x: u8) -> u32
-    ensures { λ r. ⌜ r ≡ x ⌝ }
+pub fn from_u8(b: u8) -> u32
+    ensures { λ r. ⌜ r ≡ b ⌝ }
 {
-    x as u32
+    b as u32
 }
 
 pub fn from_u16(x: u16) -> u32
@@ -13,8 +13,8 @@ pub fn from_u16(x: u16) -> u32
     x as u32
 }
 
-pub fn from_u32(x: u32) -> u64
-    ensures { λ r. ⌜ r ≡ x ⌝ }
+pub fn from_u32(n: u32) -> u64
+    ensures { λ r. ⌜ r ≡ n ⌝ }
 {
-    x as u64
+    n as u64
 }

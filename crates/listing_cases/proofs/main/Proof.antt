@@ -1,7 +1,7 @@
 use borrow.Author.Needs.{needs}
 use mathlib.Core.Path.{refl}
 use Rattle.text.specs.Basic.{sum}
-use Rattle.items.specs.Lines.{digits, decimal, described, recordLines}
+use Rattle.items.specs.Lines.{kindNames, digits, decimal, described, recordLines}
 use Rattle.items.specs.Records.{bytes, decoded, itemOf}
 use Rattle.listing.specs.Examples.{oneItems}
 use Rattle.listing.proofs.Listable.{listable}
@@ -10,7 +10,7 @@ use Rattle.listing_cases.proofs.main.Statement.{statement}
 use Rattle.listing_cases.proofs.main.Tie as tie
 
 pub main-spec : {M : Type 1} → statement M
-unfolding bytes decoded itemOf sum recordLines described digits decimal
+unfolding kindNames bytes decoded itemOf sum recordLines described digits decimal
 main-spec =
     tie.close
     (tie.spec
