@@ -3,16 +3,16 @@ use mathlib.Core.Path.{_≡_, refl}
 use mathlib.Core.Bool.{Bool, true, false, cond}
 use mathlib.Core.Option.{Option, none, some}
 use mathlib.Core.List.{List}
-use Prim.Native.Nat.{ℕ, _+_, _*_, _≤_}
+use Prim.Native.Nat.{ℕ, _*_}
 use native.Mathlib.Omega.{arith}
 use lib.Dec.{ltb}
 use lib.ListN.{length, drop}
 use lib.Seq.{drop-append-seam}
 use Rattle.items.specs.Item.{Item, Out, stop, ok}
 use Rattle.items.specs.Role.{runsOf, marksOf}
-use Rattle.items.specs.Records.{words, bytes, Counts, countsOf, overlaid, decoded, recordSize}
+use Rattle.items.specs.Records.{words, bytes, Counts, countsOf, overlaid, recordSize}
 use Rattle.items.proofs.Decoding.{decoded-is, words-length}
-use Rattle.tree.specs.Tree.{countN, countB, treeOf}
+use Rattle.tree.specs.Tree.{treeOf}
 use Rattle.tree.specs.Refusal.{Refusal, refusal}
 use Rattle.tree.proofs.Accepted.{Accepted, accepted}
 use Rattle.listing.specs.Listing.{listing}

@@ -28,7 +28,6 @@ use Rattle.printer.specs.Combine
 use Rattle.printer.specs.Layout.{What, txt, bare, part, opt, each, plus, Piece, asked, layout, rows}
 use Rattle.printer.specs.Print
 use Rattle.formatter.proofs.Tests.{every, everyRow, within-all, class-all, layout-every}
-use Rattle.formatter.proofs.Numbers.{signal-sign}
 use Rattle.formatter.proofs.Weights
 use Rattle.formatter.proofs.Weights.{noted, listed, sum-behind, sum-upTo, heft, taken, Maybe, neither, just, nth-all, plus-all, Of, TameReading, between-tame}
 use Rattle.formatter.proofs.Columns.{Column, whole, early, late, note, apart, single, empty, Seen, seeing, column, columns, columns-le, weightOf, whole-sum, plus-sum, note-sum, early-nth, second-nth}

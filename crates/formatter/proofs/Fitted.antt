@@ -4,7 +4,7 @@ use Prim.Native.Nat.{ℕ, _≤_, _<_, _^_}
 use native.Mathlib.Omega.{arith}
 use lib.ListN.{length, length-append}
 use Rattle.text.specs.Basic.{sum, All, ∅, _▹_}
-use Rattle.items.specs.Item.{always, lines, Item, signal, text, newline, spaceOrNewline, tab, indent, outdent, mark, group, groupEnd, block, blockEnd, run, runEnd, again, ifTest, elseItem, endIf}
+use Rattle.items.specs.Item.{always, lines, Item, signal, text, mark, run, runEnd, again, ifTest}
 use Rattle.items.specs.Role.{Role, stays, marks, opens, closes, repeats, role, isRun, isMark}
 use Rattle.items.specs.Records.{bytesOf, bytes}
 use Rattle.items.proofs.Fits.{Short, Fits, itemsOf}

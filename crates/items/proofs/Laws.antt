@@ -91,10 +91,6 @@ _▸_ h k = record { ran = rw (run-seq, ← (h .ran)) (k .ran); sameRecords = k 
 pub by : {p q : Print} {o a : Held} → p ≡ q → Prints q o a → Prints p o a
 by e h = rw e h
 
--- where two ways meet: what an arm left is what stands there
-pub met : {p : Print} {o : Held} {rs rs′ ts ts′ : List ℕ} {r r′ : Printed} → rs ≡ rs′ → ts ≡ ts′ → r ≡ r′ → Prints p o (held rs′ ts′ r′) → Prints p o (held rs ts r)
-met e₁ e₂ e₃ h = rw (e₁, e₂, e₃) h
-
 run-numbered : (f : ℕ → Print) (rs ts : List ℕ) (p : Printed) → run (withNumber f) (seen rs ts p) ≡ run (f (nextRun p)) (seen rs ts p)
 unfolding run seen withNumber nextRun
 run-numbered f rs ts (Done c) = refl

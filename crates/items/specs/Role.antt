@@ -2,7 +2,7 @@
 use mathlib.Core.List.{List}
 use Prim.Native.Nat.{ℕ}
 use Rattle.text.specs.Basic.{sum}
-use Rattle.items.specs.Item.{Item, signal, text, newline, spaceOrNewline, tab, indent, outdent, mark, group, groupEnd, block, blockEnd, run, runEnd, again, ifTest, elseItem, endIf}
+use Rattle.items.specs.Item.{Item, signal, text, mark, run, runEnd, again, ifTest}
 
 -- What an item means for putting back and for the counts.
 pub data Role : Type 0 where

@@ -15,10 +15,6 @@ pub one-byte : (b : List ℕ) {b′ : List ℕ} (n x : ℕ) {r : ℕ} → b′ �
 unfolding store
 one-byte b n x e f = record { counted = f; stored = e }
 
--- bytes are stored from a place on
-pub some-bytes : (b : List ℕ) {b′ : List ℕ} (n : ℕ) (s : List ℕ) {r : ℕ} → b′ ≡ store b n s → r ≡ n + length s → Writes s (page b n) (page b′ r)
-some-bytes b n s e f = record { counted = f; stored = e }
-
 -- What a loop keeps that writes us, where vs are still to be written: whoever writes them has written the whole.
 pub record Writing (us vs : List ℕ) (o a : Page) : Type 0 where
   pub rest : {b : Page} → Writes vs a b → Writes us o b

@@ -1,14 +1,12 @@
 -- The siblings of a region, one part at a time.
 use mathlib.Core.Path.{_≡_, refl, ap}
 use mathlib.Core.Bool.{Bool, true, false, cond}
-use mathlib.Core.Option.{none, some}
 use mathlib.Core.List.{List, [], _∷_}
 use Prim.Native.Nat.{ℕ, zero, suc, _+_, _-_, _<_, _≤_}
 use native.Mathlib.Omega.{arith}
 use lib.Dec.{ltb}
 use borrow.Author.Tests.{lt-ltb, le-ltb, ltb-true}
 use Rattle.tree.specs.Tree.{Part}
-use Rattle.tree.specs.Class.{Kinds, oneOf, nthOf, numberOf, allOf}
 use Rattle.tree.specs.Index.{endAt, partAt, walk, partsFrom, Table, Region}
 
 module _ {index image : List ℕ} {n : ℕ} (t : Table image index n) where
@@ -48,16 +46,3 @@ module _ {index image : List ℕ} {a b : ℕ} (r : Region image index a b) (h : 
 
   pub region-next : Region image index (endAt index a) b
   region-next = record { n = r .n; table = r .table; begins = r .table .inside a (omega (arith, r .ends)); ends = r .ends }
-
--- ---- the parts of some kinds, in turn
-
-module _ (w : Kinds) where
-  -- there is none
-  pub all-none : (xs : List Part) → numberOf (nthOf w 0 xs) ≡ none → allOf w xs ≡ []
-  unfolding nthOf allOf
-  all-none [] e = refl
-  all-none (x ∷ xs) e = go (oneOf w (x .kind)) e (all-none xs)
-    where
-      go : (t : Bool) → numberOf (cond t (some x) (nthOf w 0 xs)) ≡ none → (numberOf (nthOf w 0 xs) ≡ none → allOf w xs ≡ []) → cond t (x ∷ allOf w xs) (allOf w xs) ≡ []
-      go true e f = let z : _≡_ {A = ℕ} 0 1 = cc in absurd (omega arith)
-      go false e f = f e

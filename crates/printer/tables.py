@@ -1,0 +1,197 @@
+#!/usr/bin/env python3
+"""Writes the tables of crate `printer` from its readable list of rows.
+
+The list is `rows` in specs/Layout.antt: for each kind of node with a fixed layout, the pieces that it prints. From it follow the
+numbers of texts, wanted parts and pieces (specs/Rows.antt) and the code's tables over them (src/rows.rt, src/words.rt). A text
+that the code prints by itself has a constant in src/words.rt, and stands in FIXED below at the constant's number.
+
+    crates/printer/tables.py            writes the three files
+    crates/printer/tables.py --check    names the files that would change, and changes none
+
+After it come `rt fmt` and `rt check printer`, which proves that the tables are those of the definition.
+"""
+import re
+import sys
+from pathlib import Path
+
+HERE = Path(__file__).resolve().parent
+LAYOUT, ROWS, CODE, WORDS = (HERE / path for path in ("specs/Layout.antt", "specs/Rows.antt", "src/rows.rt", "src/words.rt"))
+CLASS, KIND = (HERE.parent / path for path in ("tree/src/class.rt", "numbers/src/kind.rt"))
+
+# The texts of the constants of src/words.rt; number 0 is no text.
+FIXED = ["", ",", " ", "[ ]", "[", "]", "{ }", "{", "}", "(", ")", "local", "local ", ";", "/*missing ExprBase*/", "/*missing Expr*/"]
+
+# What a piece prints, as src/rows.rt numbers it.
+TEXT, NEW_LINE, INDENT, OUTDENT, PART, EACH, EACH_ENDED, PLUS = range(8)
+SIGNALS = {"NewLine": NEW_LINE, "StartIndent": INDENT, "FinishIndent": OUTDENT}
+
+# Kinds of nodes are smaller; pieces a line of the code's table; characters a line of a definition.
+NODES, PIECES, WIDTH = 64, 15, 140
+
+
+# ---- reading the list
+
+def terms(words):
+    """A term from its words: a name or text with its arguments, up to a closing bracket."""
+    found = []
+    while words and words[0] not in (")", "∷", "⇒"):
+        word = words.pop(0)
+        if word == "(":
+            found.append(listed(words))
+            words.pop(0)
+        else:
+            found.append(word)
+    return found[0] if len(found) == 1 else tuple(found)
+
+
+def listed(words):
+    """Terms parted by `∷` as a list; `kind ⇒ pieces` as a pair; any other term as it is."""
+    first = terms(words)
+    if words and words[0] == "⇒":
+        words.pop(0)
+        return (first, listed(words))
+    if words and words[0] == "∷":
+        words.pop(0)
+        return [first, *listed(words)]
+    return [] if first == "[]" else first
+
+
+def parse(text):
+    return listed(re.findall(r'"[^"]*"|[()∷⇒]|[^\s()]+', text))
+
+
+def definition(name, text):
+    """What stands behind `name =`, up to the next blank line."""
+    return re.search(rf"^{name} =(.*?)(?:\n\n|\Z)", text, re.M | re.S).group(1)
+
+
+class Tables:
+    """Pieces in the order of their rows, and the texts and wanted parts that they name, each numbered when it is first met."""
+
+    def __init__(self, layout):
+        self.named = {n: parse(definition(n, layout)) for n in re.findall(r"^abbrev pub (\w+) : Piece$", layout, re.M)}
+        self.words, self.wants, self.pieces, self.starts = list(FIXED), [("Expr", 0)], [], {}
+        for kind, pieces in parse(definition("rows", layout)):
+            self.starts[int(kind)] = len(self.pieces)
+            self.pieces += [self.piece(p) for p in pieces]
+
+    def number(self, table, entry, first):
+        if entry not in table[first:]:
+            table.append(entry)
+        return table.index(entry, first)
+
+    def word(self, text):
+        return self.number(self.words, text.strip('"'), 0)
+
+    def want(self, term):
+        place = {"firstOf": 0, "secondOf": 1}[term[0]]
+        return self.number(self.wants, (term[1].removeprefix("Class."), place), 1)
+
+    def what(self, term):
+        """The last three numbers of a piece: what it prints, of which part, with which text."""
+        head, *rest = (term,) if isinstance(term, str) else term
+        if head == "txt":
+            return [TEXT, 0, self.word(rest[0])]
+        if head == "bare":
+            return [SIGNALS[rest[0]], 0, 0]
+        if head == "part":
+            return [PART, self.want(rest[0]), self.word(rest[1])]
+        if head == "opt":
+            return [PART, self.want(("firstOf", rest[0])), 0]
+        if head == "each":
+            return [EACH_ENDED if rest[2] == "true" else EACH, self.want(("firstOf", rest[0])), self.word(rest[1])]
+        return [PLUS, 0, 0]
+
+    def piece(self, term):
+        """The six numbers of a piece: two given parts, one that bars it, and what it prints."""
+        head, *rest = (term,) if isinstance(term, str) else term
+        if head in self.named:
+            return self.piece(self.named[head])
+        if head == "t":
+            return [0, 0, 0, *self.what(("txt", rest[0]))]
+        if head == "one":
+            return [0, 0, 0, *self.what(("part", ("firstOf", rest[0]), rest[1]))]
+        if head == "maybe":
+            return [0, 0, 0, *self.what(("opt", rest[0]))]
+        if head == "always":
+            return [0, 0, 0, *self.what(rest[0])]
+        asked = ([self.want(w) for w in rest[0]] + [0, 0])[:2]
+        inner = self.piece(rest[1])
+        return [*asked, *inner[2:]] if head == "given" else [*inner[:2], asked[0], *inner[3:]]
+
+
+# ---- writing the tables
+
+def kinds(class_name):
+    """The numbers from, to and but of a class, by class.rt and kind.rt."""
+    numbers = dict(re.findall(r"pub const (\w+): u32 = (\d+);", KIND.read_text()))
+    made, args = re.search(rf"Class::{class_name} => (\w+)\(([^)]*)\)", CLASS.read_text()).groups()
+    found = [int(numbers[a.strip().removeprefix("kind::")]) for a in args.split(",") if a.strip()]
+    return {"only": found * 2 + [0], "from": found + [0], "without": found}[made]
+
+
+def definition_lines(members):
+    """Members of a list joined by `∷`, in lines."""
+    lines = [""]
+    for m in members:
+        if len(lines[-1]) + len(m) > WIDTH:
+            lines.append("")
+        lines[-1] += ("" if len(lines) == 1 and not lines[0] else "∷ " if not lines[-1] else " ∷ ") + m
+    return "".join(f"\n    {line}" for line in [*lines, "∷ []"])
+
+
+def replaced(text, pattern, new):
+    """The text with the one place that fits the pattern's group written anew."""
+    m = re.search(pattern, text, re.M | re.S)
+    return text[: m.start(1)] + new + text[m.end(1):]
+
+
+def rows_definition(tables, text):
+    words = [f'"{w}"' for w in tables.words]
+    wants = [f"{'secondOf' if place else 'firstOf'} Class.{c}" for c, place in tables.wants]
+    text = replaced(text, r"^words =(.*?)\n\n", definition_lines(words))
+    text = replaced(text, r"^wants =(.*?)\n\n", definition_lines(wants))
+    for name, count in (("word", words), ("want", wants), ("piece", tables.pieces)):
+        text = replaced(text, rf"^{name}Count = (\d+)$", str(len(count)))
+    return text
+
+
+def array(text, name, numbers):
+    listed_numbers = "\n" + "".join(f"    {n},\n" for n in numbers)
+    text = replaced(text, rf"const {name}: \[u\d+; (\d+)\]", str(len(numbers)))
+    return replaced(text, rf"const {name}: \[[^\]]*\] = \[(.*?)\];", listed_numbers)
+
+
+def rows_code(tables, text):
+    ends = [min([s for k, s in tables.starts.items() if k >= kind], default=len(tables.pieces)) for kind in range(NODES + 1)]
+    text = array(text, "ROWS", ends)
+    columns = zip(*([*kinds(c), place] for c, place in tables.wants))
+    for name, column in zip(("FROM", "TO", "BUT", "PLACE"), columns):
+        text = array(text, f"WANT_{name}", column)
+    coded = ["".join(chr(48 + place + n) for place, n in enumerate(p)).replace("\\", "\\\\") for p in tables.pieces]
+    lines = ["".join(coded[i:i + PIECES]) for i in range(0, len(coded), PIECES)]
+    return replaced(text, r'let table: &\[u8\] =\s*b"(.*?)";', "\\\n          ".join(lines))
+
+
+def words_code(tables, text):
+    starts = [sum(map(len, tables.words[:i])) for i in range(len(tables.words) + 1)]
+    text = array(text, "STARTS", starts)
+    return replaced(text, r'let all: &\[u8\] =\s*b"(.*?)";', "".join(tables.words))
+
+
+def main():
+    tables, check, status = Tables(LAYOUT.read_text()), "--check" in sys.argv, 0
+    for path, made in ((ROWS, rows_definition), (CODE, rows_code), (WORDS, words_code)):
+        old = path.read_text()
+        new = made(tables, old)
+        if "".join(old.split()) == "".join(new.split()):
+            continue
+        print(path.relative_to(HERE.parent.parent))
+        if check:
+            status = 1
+        else:
+            path.write_text(new)
+    return status
+
+
+sys.exit(main())
