@@ -1,4 +1,4 @@
--- Definitions that the contracts cite, and the laws that other crates cite.
+-- Definitions that the contracts cite.
 pub mod Reading
 pub mod Gaps
 pub mod Whole

@@ -12,6 +12,7 @@ use children::newlines::waiting_newlines;
 use children::survey::Outline;
 use children::survey::survey;
 use children::survey::survey_after;
+use numbers::wide::from_u32;
 use tree::access::end_at;
 use tree::access::kind_at;
 use tree::class::Class;
@@ -55,15 +56,9 @@ pub fn basis() -> Digests {
     }
 }
 
-fn wide(x: u32) -> u64
-    ensures { λ r. ⌜ r < 4294967296 ⌝ }
-{
-    x as u64
-}
-
 // A number more in a digest, which is FNV-1a of 32 bits.
 pub fn mix(h: u32, x: u32) -> u32 {
-    let n = (wide(h ^ x) * PRIME) % 4294967296;
+    let n = (from_u32(h ^ x) * PRIME) % 4294967296;
     n as u32
 }
 

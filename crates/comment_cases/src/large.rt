@@ -13,6 +13,7 @@ use cases::word;
 use comments::CommentLocation;
 use items::Count;
 use items::Printed;
+use items::RECORD;
 
 // A case has seven fields: the token's kind, head and piece, how often the piece comes, the tail, and what is expected above
 // an item and inline.
@@ -55,7 +56,7 @@ fn mixed_bytes(texts: &[u8], sum: u64) -> u64 {
 
 // A checksum over the words of the records and the bytes of the texts that `c` counts.
 fn checksum(records: &[u32], texts: &[u8], c: Count) -> u64 {
-    let sum = mixed_words(records, 3 * (c.records as usize), 0);
+    let sum = mixed_words(records, RECORD * (c.records as usize), 0);
     mixed_bytes(front(texts, c.texts as usize), sum)
 }
 

@@ -10,6 +10,7 @@ use cases::word;
 use comments::CommentLocation;
 use items::Count;
 use items::Printed;
+use items::RECORD;
 ghost use Prim.Native.Nat.{_-_, _≤_};
 ghost use lib.ListN.{length};
 
@@ -26,7 +27,7 @@ const AS_ABOVE: u8 = 255;
 
 // Word k of record n.
 fn record_word(records: &[u32], n: u32, k: u8) -> u32 {
-    word(records, 3 * (n as usize) + k as usize)
+    word(records, RECORD * (n as usize) + k as usize)
 }
 
 // What stands behind the first item: a text is as long as its length says.

@@ -1,3 +1,4 @@
+-- Definitions that the contracts cite.
 pub mod Comment
 pub mod Refusal
 pub mod Print

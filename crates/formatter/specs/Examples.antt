@@ -1,4 +1,4 @@
--- Document 01, 'Twelve kept examples', A to L in one list, and the records of `[1]`: computed by antt.
+-- Document 01, 'Twelve kept examples', A to L in one list, and the records of `[1]`.
 use mathlib.Core.Bool.{Bool, false, _&&_}
 use mathlib.Core.List.{List, [], _∷_, _++_, map, flatten}
 use Prim.Native.Nat.{ℕ, _*_, _/_, _%_}

@@ -1,4 +1,4 @@
--- What the call from a tree image to print items promises: the plain printing, bodies put back, bounds, the answer and the lent buffers.
+-- What the calls from a tree image to print items promise: bodies put back, the plain printing, the answer and the lent buffers, what the program prints.
 pub mod PutBack
 pub mod Plain
 pub mod Answer

@@ -26,16 +26,16 @@ from (some σ) o = finish σ o
 
 finish-after : (xs : List Item) (σ : State) (o : Out) → finish σ (after xs o) ≡ from (emitAll xs σ) o
 unfolding finish
-finish-after xs σ (stop ys e) = rw (all-append xs ys σ) (joined (emitAll xs σ))
+finish-after xs σ (stop ys e) = rw (all-append xs ys σ) (meets (emitAll xs σ))
   where
-    joined : (o : Option State) → halting e (onward o (emitAll ys)) ≡ from o (stop ys e)
-    joined nothing = refl
-    joined (some τ) = refl
-finish-after xs σ (ok ys k) = rw (all-append xs ys σ) (joined (emitAll xs σ))
+    meets : (o : Option State) → halting e (onward o (emitAll ys)) ≡ from o (stop ys e)
+    meets nothing = refl
+    meets (some τ) = refl
+finish-after xs σ (ok ys k) = rw (all-append xs ys σ) (meets (emitAll xs σ))
   where
-    joined : (o : Option State) → reaching k (onward o (emitAll ys)) ≡ from o (ok ys k)
-    joined nothing = refl
-    joined (some τ) = refl
+    meets : (o : Option State) → reaching k (onward o (emitAll ys)) ≡ from o (ok ys k)
+    meets nothing = refl
+    meets (some τ) = refl
 
 run-halting : (q : Print) (e : ℕ) (o : Option State) → halting e o ≡ run q (halting e o)
 unfolding run

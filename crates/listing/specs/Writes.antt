@@ -1,4 +1,4 @@
--- What a function that writes bytes into a lent buffer promises, and how such promises are put together.
+-- What a function that writes bytes into a lent buffer promises.
 use mathlib.Core.Path.{_≡_}
 use mathlib.Core.List.{List}
 use Prim.Native.Nat.{ℕ, _+_, _<_, _^_}

@@ -1,4 +1,4 @@
--- A reading's children printed gap by gap: what is printed around each child, and the steps of a walk over spans.
+-- A reading's children printed gap by gap: what is printed around each child, and what a walk over spans asks and keeps.
 use mathlib.Core.Path.{_≡_}
 use mathlib.Core.Bool.{Bool, true, false, _&&_}
 use mathlib.Core.List.{List, []}

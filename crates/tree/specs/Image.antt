@@ -1,4 +1,4 @@
--- The element with a number, read at its place in the image, and the elements from it on.
+-- The element with a number, read at its place in the image.
 use mathlib.Core.List.{List}
 use Prim.Native.Nat.{ℕ, zero, suc, _+_, _*_}
 use lib.ListN.{drop, take}

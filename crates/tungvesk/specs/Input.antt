@@ -1,5 +1,4 @@
 -- What reading says.
-use mathlib.Core.Path.{_≡_}
 use Prim.Native.Nat.{ℕ}
 use Rattle.tungvesk.specs.declared.Input.{Input}
 use Rattle.tungvesk.specs.declared.Input.the-variants.{Bytes, Failed}
@@ -8,6 +7,3 @@ use Rattle.tungvesk.specs.declared.Input.the-variants.{Bytes, Failed}
 abbrev pub bytesOf : Input → ℕ
 bytesOf (Bytes n) = n
 bytesOf Failed = 0
-
-pub bytes-of : {r : Input} {n : ℕ} → r ≡ Bytes n → bytesOf r ≡ n
-bytes-of e = rw e

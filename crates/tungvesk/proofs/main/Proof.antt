@@ -2,9 +2,9 @@ use mathlib.Core.Path.{sym}
 use native.Mathlib.Omega.{arith}
 use lib.Seq.{length-take-le}
 use borrow.Author.Needs.{needs}
-use Rattle.tungvesk.specs.Input.{bytes-of}
 use Rattle.tungvesk.proofs.main.Statement.{statement}
 use Rattle.tungvesk.proofs.main.Tie as tie
+use Rattle.tungvesk.proofs.Reading.{bytes-of}
 
 pub main-spec : {M : Type 1} → statement M
 main-spec =

@@ -3,9 +3,9 @@ use Prim.Native.Nat.{_-_, _≤_}
 use native.Mathlib.Omega.{arith}
 use lib.ListN.{length}
 use borrow.Author.Needs.{needs}
-use Rattle.tungvesk.specs.Input.{bytes-of}
 use Rattle.tungvesk.proofs.read_input.Statement.{statement}
 use Rattle.tungvesk.proofs.read_input.Tie as tie
+use Rattle.tungvesk.proofs.Reading.{bytes-of}
 
 abbrev Inv-loop : tie.InvT-loop
 Inv-loop buffer₀ n₀ buffer n = (n ≤ length buffer) × (length buffer ≡ length buffer₀)
