@@ -12,7 +12,6 @@ use children::newlines::waiting_newlines;
 use children::survey::Outline;
 use children::survey::survey;
 use children::survey::survey_after;
-use numbers::wide::from_u32;
 use tree::access::end_at;
 use tree::access::kind_at;
 use tree::class::Class;
@@ -56,10 +55,15 @@ pub fn basis() -> Digests {
     }
 }
 
+// The product with the prime, of 32 bits.
+fn product(m: u32) -> u32 {
+    let n = ((m as u64) * PRIME) % 4294967296;
+    n as u32
+}
+
 // A number more in a digest, which is FNV-1a of 32 bits.
 pub fn mix(h: u32, x: u32) -> u32 {
-    let n = (from_u32(h ^ x) * PRIME) % 4294967296;
-    n as u32
+    product(h ^ x)
 }
 
 fn bit(b: bool) -> u32 {

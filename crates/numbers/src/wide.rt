@@ -12,9 +12,3 @@ pub fn from_u16(x: u16) -> u32
 {
     x as u32
 }
-
-pub fn from_u32(n: u32) -> u64
-    ensures { λ r. ⌜ r ≡ n ⌝ }
-{
-    n as u64
-}
