@@ -185,7 +185,7 @@ def main():
         old = path.read_text()
         new = made(tables, old)
         if "".join(old.split()) == "".join(new.split()):
-            continue
+            continue  # `rt fmt` has the layout
         print(path.relative_to(HERE.parent.parent))
         if check:
             status = 1

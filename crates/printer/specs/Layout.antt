@@ -22,7 +22,7 @@ pub data What : Type 0 where
   txt : String → What  -- a text of the formatter's own: str(..)
   bare : Signal → What  -- a newline, an indent or an outdent
   part : Want → String → What  -- what the part prints, or the text that says what is missing
-  opt : Class → What  -- what the firstOf part of the class prints, if there is one
+  opt : Class → What  -- what the first part of the class prints, if there is one
   each : Class → String → Bool → What  -- all parts of the class: each behind a text, and in front of a comma and a newline if so asked
   plus : What  -- the + of a field, if there is one
 

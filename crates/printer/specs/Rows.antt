@@ -19,10 +19,10 @@ unfoldable pub words : List String
 words =
     "" ∷ "," ∷ " " ∷ "[ ]" ∷ "[" ∷ "]" ∷ "{ }" ∷ "{" ∷ "}" ∷ "(" ∷ ")" ∷ "local" ∷ "local " ∷ ";" ∷ "/*missing ExprBase*/" ∷ "/*missing Expr*/"
     ∷ "/*missing BinaryOperator*/" ∷ "/*missing UnaryOperator*/" ∷ "/*missing Text*/" ∷ "/*missing Number*/" ∷ "/*missing Literal*/"
-    ∷ "/*missing ObjBody*/" ∷ "/*missing ImportKind*/" ∷ "/*missing Name*/" ∷ "if " ∷ " then " ∷ "/*missing core::option::Option<Expr>*/" ∷ " else "
-    ∷ "function" ∷ "/*missing ParamsDesc*/" ∷ "error " ∷ "?" ∷ "." ∷ ".?" ∷ "/*missing SliceDesc*/" ∷ "/*missing ArgsDesc*/" ∷ "/*missing Assertion*/"
-    ∷ "/*missing Destruct*/" ∷ " = " ∷ "/*missing ObjLocal*/" ∷ "/*missing FieldName*/" ∷ "/*missing Visibility*/" ∷ "for " ∷ " in " ∷ "for [" ∷ "..."
-    ∷ ":" ∷ "/*missing Bind*/" ∷ "assert " ∷ ": "
+    ∷ "/*missing ObjBody*/" ∷ "/*missing ImportKind*/" ∷ "/*missing Name*/" ∷ "if " ∷ " then " ∷ "/*missing core::option::Option<Expr>*/"
+    ∷ " else " ∷ "function" ∷ "/*missing ParamsDesc*/" ∷ "error " ∷ "?" ∷ "." ∷ ".?" ∷ "/*missing SliceDesc*/" ∷ "/*missing ArgsDesc*/"
+    ∷ "/*missing Assertion*/" ∷ "/*missing Destruct*/" ∷ " = " ∷ "/*missing ObjLocal*/" ∷ "/*missing FieldName*/" ∷ "/*missing Visibility*/"
+    ∷ "for " ∷ " in " ∷ "for [" ∷ "..." ∷ ":" ∷ "/*missing Bind*/" ∷ "assert " ∷ ": "
     ∷ []
 
 -- how many they are
@@ -47,10 +47,11 @@ unfoldable pub wants : List Want
 wants =
     firstOf Class.Expr ∷ firstOf Class.Expr ∷ firstOf Class.BinaryOperator ∷ secondOf Class.Expr ∷ firstOf Class.UnaryOperator ∷ firstOf Class.Text
     ∷ firstOf Class.Number ∷ firstOf Class.Literal ∷ firstOf Class.ObjBody ∷ firstOf Class.CompSpec ∷ firstOf Class.ImportKind ∷ firstOf Class.Name
-    ∷ firstOf Class.TrueExpr ∷ firstOf Class.Else ∷ firstOf Class.FalseExpr ∷ firstOf Class.ParamsDesc ∷ firstOf Class.Question ∷ firstOf Class.SliceDesc
-    ∷ firstOf Class.ArgsDesc ∷ firstOf Class.Assertion ∷ firstOf Class.Destruct ∷ firstOf Class.ObjLocal ∷ firstOf Class.FieldName ∷ firstOf Class.Visibility
-    ∷ firstOf Class.DestructArrayPart ∷ firstOf Class.DestructObjectField ∷ firstOf Class.DestructRest ∷ firstOf Class.Ident ∷ firstOf Class.SliceDescEnd
-    ∷ firstOf Class.SliceDescStep ∷ firstOf Class.Assign ∷ firstOf Class.Param ∷ firstOf Class.Bind ∷ firstOf Class.Colon
+    ∷ firstOf Class.TrueExpr ∷ firstOf Class.Else ∷ firstOf Class.FalseExpr ∷ firstOf Class.ParamsDesc ∷ firstOf Class.Question
+    ∷ firstOf Class.SliceDesc ∷ firstOf Class.ArgsDesc ∷ firstOf Class.Assertion ∷ firstOf Class.Destruct ∷ firstOf Class.ObjLocal
+    ∷ firstOf Class.FieldName ∷ firstOf Class.Visibility ∷ firstOf Class.DestructArrayPart ∷ firstOf Class.DestructObjectField
+    ∷ firstOf Class.DestructRest ∷ firstOf Class.Ident ∷ firstOf Class.SliceDescEnd ∷ firstOf Class.SliceDescStep ∷ firstOf Class.Assign
+    ∷ firstOf Class.Param ∷ firstOf Class.Bind ∷ firstOf Class.Colon
     ∷ []
 
 -- how many they are
