@@ -8,7 +8,7 @@ use native.Mathlib.Numerals.{add-one}
 use lib.Dec.{leb, eqb}
 use lib.ListN.{length, take, drop, getD, length-drop, drop-of-length-le, take-append-drop}
 use lib.Seq.{drop-cons, drop-drop, take-all, length-take-le}
-use borrow.Author.Tests.{eq-eqb, ne-eqb, lt-ltb, le-leb, leb-true, leb-false}
+use borrow.Author.Tests.{eqb-true, eqb-false, eq-eqb, ne-eqb, lt-ltb, le-leb, leb-true, leb-false}
 use Rattle.text.specs.Basic.{ascii, isNil, firstOr, all, dropWhile, dropEnd, startsWith}
 use Rattle.text.proofs.BlankLines.{drops-commute, dropEnd-twice, blank-lines, kept-lines, first-kept}
 use Rattle.text.specs.Text.{lines, lineEnd, padding, trimEnd}
@@ -16,7 +16,7 @@ use Rattle.text.proofs.Lists.{and-true}
 use Rattle.items.specs.Item.{Item, text, newline, tab, say}
 use Rattle.items.specs.Machine.{Held, Prints, Says}
 use Rattle.items.proofs.Laws.{said, unsaid, Going, going-none, going-more, going-all}
-use Rattle.comments.specs.Comments.{Location, optional, singleLine, common, commonPadding, blockLines, immediate, unpadded, tabbed, oneLine, onOneLine, manyLines, blockOf, multiLine, errorItems, comment}
+use Rattle.comments.specs.Comments.{Location, aboveItem, itemInline, endOfItems, optional, singleLine, common, commonPadding, blockLines, immediate, unpadded, tabbed, oneLine, onOneLine, manyLines, blockOf, multiLine, errorItems, comment}
 use Rattle.comments.specs.Rows.{rows, FirstRow, isCut, Piece}
 use Rattle.comments.proofs.Walks.{row-step, rows-none}
 
@@ -232,7 +232,7 @@ none-left {A} f (x ∷ xs) h = go (f x) h (none-left f xs)
     go false e r = let z : _≡_ {A = ℕ} 0 1 = cc in absurd (omega arith)
 
 -- what a comment with text gives: r is what stands in it, t that without the white space at its end
-module _ (r t : List ℕ) (i : ℕ) (e : t ≡ trimEnd r) (n : length t ≡ 0 → ⊥) (f : FirstRow t i) where
+module _ (r t : List ℕ) (e : t ≡ trimEnd r) (n : length t ≡ 0 → ⊥) where
   text-left : trimEnd r ≡ [] → ⊥
   text-left z = n (ap length (e ∙ z))
 
@@ -240,29 +240,46 @@ module _ (r t : List ℕ) (i : ℕ) (e : t ≡ trimEnd r) (n : length t ≡ 0 �
   kept = kept-lines r text-left ∙ sym (rows-zero (trimEnd r)) ∙ ap (λ (u : List ℕ). rows u 0) (sym e)
 
   -- there is a line that is not empty
-  first-within : i ≤ length t
-  first-within = go (leb i (length t)) refl
-    where
-      go : (b : Bool) → leb i (length t) ≡ b → i ≤ length t
-      go true q = leb-true i (length t) q
-      go false q =
-          let a : dropWhile isNil (rows t 0) ≡ [] = f .skipped ∙ rows-none t i (leb-false i (length t) q) in
-          let b : rows t 0 ≡ [] = sym kept ∙ sym (dropEnd-twice isNil (map trimEnd (lines r))) ∙ ap (dropEnd isNil) kept ∙ none-left isNil (rows t 0) a in
-          let c = row-step t _ 0 _ (omega arith) refl refl in
-          let z : _≡_ {A = ℕ} 0 1 = cc in
-          absurd (omega arith)
+  rows-left : dropWhile isNil (rows t 0) ≡ [] → ⊥
+  rows-left a =
+      let b : rows t 0 ≡ [] = sym kept ∙ sym (dropEnd-twice isNil (map trimEnd (lines r))) ∙ ap (dropEnd isNil) kept ∙ none-left isNil (rows t 0) a in
+      let c = row-step t _ 0 _ (omega arith) refl refl in
+      let z : _≡_ {A = ℕ} 0 1 = cc in
+      omega arith
 
-  block-rows : rows (drop i t) 0 ≡ blockLines r
+  from-rows : dropWhile isNil (rows t 0) ≡ blockLines r
   unfolding blockLines
-  block-rows = rows-from t i first-within ∙ sym (f .skipped) ∙ ap (dropWhile isNil) (sym kept) ∙ sym (drops-commute isNil (map trimEnd (lines r)))
+  from-rows = ap (dropWhile isNil) (sym kept) ∙ sym (drops-commute isNil (map trimEnd (lines r)))
 
-  immediate-is : eqb i 0 ≡ immediate r
-  unfolding immediate
-  immediate-is = f .first ∙ ap (λ (l : List ℕ). not (isNil l)) (ap (λ (u : List ℕ). firstOr [] (rows u 0)) e ∙ ap (firstOr []) (rows-zero (trimEnd r)) ∙ first-kept r)
+  module _ (i : ℕ) (f : FirstRow t i) where
+    first-within : i ≤ length t
+    first-within = go (leb i (length t)) refl
+      where
+        go : (b : Bool) → leb i (length t) ≡ b → i ≤ length t
+        go true q = leb-true i (length t) q
+        go false q = absurd (rows-left (f .skipped ∙ rows-none t i (leb-false i (length t) q)))
+
+    block-rows : rows (drop i t) 0 ≡ blockLines r
+    block-rows = rows-from t i first-within ∙ sym (f .skipped) ∙ from-rows
+
+    immediate-is : eqb i 0 ≡ immediate r
+    unfolding immediate
+    immediate-is = f .first ∙ ap (λ (l : List ℕ). not (isNil l)) (ap (λ (u : List ℕ). firstOr [] (rows u 0)) e ∙ ap (firstOr []) (rows-zero (trimEnd r)) ∙ first-kept r)
 
 block-none : (r : List ℕ) → trimEnd r ≡ [] → blockLines r ≡ []
 unfolding blockLines dropWhile
 block-none r z = drops-commute isNil (map trimEnd (lines r)) ∙ ap (dropWhile isNil) (blank-lines r z)
+
+block-some : (doc now : Bool) (ls : List (List ℕ)) (loc : Location) → (ls ≡ [] → ⊥) → false ≡ isNil (blockOf doc now ls loc)
+unfolding blockOf onOneLine manyLines
+block-some doc now [] loc h = absurd (h refl)
+block-some doc now (l ∷ ls) loc h = go (isNil ls && not doc) loc
+  where
+    go : (b : Bool) (loc : Location) → false ≡ isNil (cond b (onOneLine l loc) (manyLines doc (unpadded now (l ∷ ls))))
+    go true aboveItem = refl
+    go true itemInline = refl
+    go true endOfItems = refl
+    go false loc = refl
 
 empty : (t : List ℕ) → length t ≡ 0 → t ≡ []
 empty [] h = refl
@@ -285,7 +302,17 @@ module _ (s body b : List ℕ) (doc : Bool) (loc : Location) (h : body ≡ take 
   multi-none t e n = sym multi-is ∙ rw (block-none b (sym e ∙ empty t n))
 
   pub multi-some : (t v : List ℕ) (i : ℕ) → t ≡ trimEnd b → (length t ≡ 0 → ⊥) → FirstRow t i → v ≡ drop i t → blockOf doc (eqb i 0) (rows v 0) loc ≡ multiLine s loc
-  multi-some t v i e n f w = rw (w, immediate-is b t i e n f, block-rows b t i e n f) multi-is
+  multi-some t v i e n f w = rw (w, immediate-is b t e n i f, block-rows b t e n i f) multi-is
+
+  -- a comment without text prints nothing, and any other prints something
+  pub multi-blank : (t : List ℕ) → t ≡ trimEnd b → eqb (length t) 0 ≡ isNil (multiLine s loc)
+  multi-blank t e = go (eqb (length t) 0) refl
+    where
+      go : (z : Bool) → eqb (length t) 0 ≡ z → z ≡ isNil (multiLine s loc)
+      go true q = rw (multi-none t e (eqb-true (length t) 0 q)) refl
+      go false q =
+          let n = eqb-false (length t) 0 q in
+          rw (sym multi-is) (block-some doc (immediate b) (blockLines b) loc (λ z. rows-left b t e n (from-rows b t e n ∙ z)))
 
 -- ANY TOKEN
 

@@ -14,10 +14,10 @@ ghost use mathlib.Core.Bool.{true, false, cond};
 ghost use mathlib.Core.List.{[], _∷_, map, flatten};
 ghost use Prim.Native.Nat.{_-_};
 ghost use lib.ListN.{length, drop, take};
-ghost use Rattle.text.specs.Basic.{ascii};
+ghost use Rattle.text.specs.Basic.{ascii, isNil};
 ghost use Rattle.items.specs.Item.{text, tab};
 ghost use Rattle.items.specs.Machine.{SaysIn};
-ghost use Rattle.comments.specs.Comments.{optional, tabbed, oneLine, unpadded, manyLines, onOneLine, blockOf, multiLine};
+ghost use Rattle.comments.specs.Comments.{Location, optional, tabbed, oneLine, unpadded, manyLines, onOneLine, blockOf, multiLine};
 ghost use Rattle.comments.specs.Place.{place};
 ghost use Rattle.comments.specs.Rows.{rows};
 
@@ -226,4 +226,14 @@ pub fn print_multi_line(
     }
     let first = first_row(rest);
     print_block(records, texts, doc, first == 0, behind(rest, first), loc, p)
+}
+
+// Whether a multi-line comment has no text, and so prints nothing.
+pub fn is_blank(s: &[u8]) -> bool
+    ensures { λ r. ⌜ ((loc : Location) → r ≡ isNil (multiLine (now (s .entry)) loc)) ⌝ }
+{
+    let body = inside(s);
+    let doc = text::starts_with(body, b"*");
+    let left = text::trim_end(after_star(doc, body));
+    left.len() == 0
 }

@@ -6,9 +6,10 @@ mod rows;
 use items::Printed;
 use numbers::kind;
 ghost use mathlib.Core.Path.{_≡_};
+ghost use Rattle.text.specs.Basic.{isNil};
 ghost use Rattle.items.specs.Item.{says};
 ghost use Rattle.items.specs.Machine.{PrintsIn};
-ghost use Rattle.comments.specs.Comments.{inline, comment};
+ghost use Rattle.comments.specs.Comments.{Location, inline, comment};
 ghost use Rattle.comments.specs.Place.{place};
 
 // Where a comment stands.
@@ -50,5 +51,20 @@ pub fn format_comment(
         kind::SINGLE_LINE_HASH_COMMENT => plain::print_hash(records, texts, s, loc, p),
         kind::SINGLE_LINE_SLASH_COMMENT => plain::print_slash(records, texts, s, loc, p),
         _ => plain::print_error(records, texts, s, p),
+    }
+}
+
+// Whether a trivia token, or a custom error, prints nothing, at any place.
+pub fn is_silent(kind: u32, s: &[u8]) -> bool
+    ensures { λ r. ⌜ ((loc : Location) → r ≡ isNil (comment kind (now (s .entry)) loc)) ⌝ }
+{
+    match kind {
+        kind::WHITESPACE => true,
+        kind::MULTI_LINE_COMMENT => block::is_blank(s),
+        kind::ERROR_COMMENT_TOO_SHORT => false,
+        kind::ERROR_COMMENT_UNTERMINATED => false,
+        kind::SINGLE_LINE_HASH_COMMENT => false,
+        kind::SINGLE_LINE_SLASH_COMMENT => false,
+        _ => s.len() == 0,
     }
 }
