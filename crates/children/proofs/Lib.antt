@@ -1,18 +1,16 @@
 -- Laws that belong to no one function. Those of a `pub mod` are cited by other crates.
 pub mod Among
 mod Arounds
-mod Comments
 mod Glue
 pub mod Kids
 pub mod Lead
 mod Leading
-mod Printing
 mod Spanning
 pub mod Stretch
 mod Sums
 mod Surveying
 mod Turns
 pub mod Uses
-mod Walks
+pub mod Walks
 pub mod Whole
 mod Widening

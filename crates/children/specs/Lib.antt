@@ -5,5 +5,4 @@ pub mod Whole
 pub mod Stretch
 pub mod Spans
 pub mod Lead
-pub mod Comments
 pub mod Between

@@ -3,6 +3,7 @@ pub mod around;
 pub mod between;
 pub mod gap;
 pub mod newlines;
-pub mod print;
 pub mod survey;
 mod turn;
+
+pub use turn::note_kinds;

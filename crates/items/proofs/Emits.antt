@@ -14,16 +14,15 @@ use lib.ListN.{length}
 use Rattle.items.specs.declared.Condition.{Condition}
 use Rattle.items.specs.declared.Condition.the-variants.{Always, Lines}
 use Rattle.items.specs.declared.Count.{Count}
-use Rattle.numbers.specs.declared.Element.{Element}
 use Rattle.items.specs.declared.Entry.{Entry}
 use Rattle.numbers.specs.declared.Mark.{Mark}
 use Rattle.items.specs.declared.Printed.{Printed}
 use Rattle.items.specs.declared.Printed.the-variants.{Done, Stopped, Full}
 use Rattle.items.specs.declared.Signal.{Signal}
-use Rattle.items.specs.Item.{Item, text, mark, runEnd, again, ifTest, ok, Print, say, stopped, openRun, run as item, signal, conditionTest, signalKind}
+use Rattle.items.specs.Item.{Item, text, mark, runEnd, again, ifTest, ok, Print, say, runAt, run as item, signal, conditionTest, signalKind}
 use Rattle.items.specs.Role.{role, isRun}
 use Rattle.items.specs.Records.{bytesOf}
-use Rattle.items.specs.Machine.{State, store, counted, printable, emitted, emitAll, onward, reaching, finish, run, seen, held, Prints, nextRun}
+use Rattle.items.specs.Machine.{State, store, counted, printable, emitted, emitAll, onward, reaching, finish, run, seen, held, Prints}
 use Rattle.items.proofs.Lengths.{line-length}
 use Rattle.items.proofs.Laws.{Ended, stops, fills}
 use Rattle.items.specs.Entry.{entryOf, plainEntry, storeEntry, advanced, continued, Emitted}
@@ -115,11 +114,11 @@ said-text s rs ts rs′ ts′ p r c h b m l₁ l₂ =
     (λ c′ h′. let q : c ≡ c′ = cc in record { entry = rw q; prints = rw (add-zero (c′ .runs)); bytes = rw q at b }) m l₁ l₂)
 
 pub opened :
-    (rs ts rs′ : List ℕ) (p r : Printed) (k : ℕ) → k ≡ nextRun p → Emitted (record { kind = 12; first = k; second = 0; bytes = 0; runs = 1; marks = 0 }) rs p rs′ r
-    → length rs′ ≡ length rs → Prints openRun (held rs ts p) (held rs′ ts r)
-unfolding openRun nextRun store
-opened rs ts rs′ p r k e m l =
-    shown openRun (item k) _ rs ts rs′ ts p r (λ c h. record { entry = refl; prints = rw (e, h, add-one (c .runs)); bytes = refl }) m l refl
+    (rs ts rs′ : List ℕ) (p r : Printed) (n : ℕ) → Emitted (record { kind = 12; first = n; second = 0; bytes = 0; runs = 1; marks = 0 }) rs p rs′ r
+    → length rs′ ≡ length rs → Prints (runAt n) (held rs ts p) (held rs′ ts r)
+unfolding runAt store
+opened rs ts rs′ p r n m l =
+    shown (runAt n) (item n) _ rs ts rs′ ts p r (λ c h. record { entry = refl; prints = rw (add-one (c .runs)); bytes = refl }) m l refl
 
 -- ---- items with no text that are no runs
 
@@ -144,14 +143,3 @@ always-entry t h = rw h
 
 pub lines-entry : (t : Condition) (m : Mark) → t ≡ Lines m → plainEntry 15 1 (m .0) ≡ entryOf 0 (ifTest (conditionTest t))
 lines-entry t m h = rw h
-
--- ---- functions that are lent no buffer
-
-pub ended-next : (p : Printed) → Ended p → 0 ≡ nextRun p
-unfolding nextRun
-ended-next p (stops e) = refl
-ended-next p fills = refl
-
-pub stopping : (e : Element) (rs ts : List ℕ) (p : Printed) (c : Count) → p ≡ Done c → Prints (stopped (e .0)) (held rs ts p) (held rs ts (Stopped e))
-unfolding run seen stopped finish emitAll
-stopping e rs ts p c h = record { ran = rw h; sameRecords = refl; sameTexts = refl }

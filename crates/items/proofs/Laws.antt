@@ -7,8 +7,8 @@ use Prim.Native.Nat.{ℕ}
 use Rattle.numbers.specs.declared.Element.{Element}
 use Rattle.items.specs.declared.Printed.{Printed}
 use Rattle.items.specs.declared.Printed.the-variants.{Done, Stopped, Full}
-use Rattle.items.specs.Item.{Item, Out, stop, ok, Print, after, next, _⨟_, none, say, says, withNumber}
-use Rattle.items.specs.Machine.{State, Outcome, halted, full, reached, emit1, emitAll, onward, halting, reaching, finish, run, seen, Held, held, Prints, nextRun, Says}
+use Rattle.items.specs.Item.{Item, Out, stop, ok, Print, after, next, _⨟_, none, say, says}
+use Rattle.items.specs.Machine.{State, Outcome, halted, full, reached, emit1, emitAll, onward, halting, reaching, finish, run, seen, Held, held, Prints, Says}
 
 all-append : (xs ys : List Item) (σ : State) → emitAll (xs ++ ys) σ ≡ onward (emitAll xs σ) (emitAll ys)
 unfolding emitAll
@@ -90,16 +90,6 @@ _▸_ h k = record { ran = rw (run-seq, ← (h .ran)) (k .ran); sameRecords = k 
 -- a printing by another name, as where a test picks it
 pub by : {p q : Print} {o a : Held} → p ≡ q → Prints q o a → Prints p o a
 by e h = rw e h
-
-run-numbered : (f : ℕ → Print) (rs ts : List ℕ) (p : Printed) → run (withNumber f) (seen rs ts p) ≡ run (f (nextRun p)) (seen rs ts p)
-unfolding run seen withNumber nextRun
-run-numbered f rs ts (Done c) = refl
-run-numbered f rs ts (Stopped e) = refl
-run-numbered f rs ts Full = refl
-
--- a printer that has read the next list's number prints what knows it
-pub numbers : (f : ℕ → Print) {rs ts : List ℕ} {p : Printed} {k : ℕ} {a : Held} → k ≡ nextRun p → Prints (f k) (held rs ts p) a → Prints (withNumber f) (held rs ts p) a
-numbers f {rs} {ts} {p} {k} {a} e h = record { ran = rw (run-numbered f rs ts p, ← e) (h .ran); sameRecords = h .sameRecords; sameTexts = h .sameTexts }
 
 -- Printing that has stopped or is full.
 pub data Ended : Printed → Type 0 where

@@ -149,12 +149,6 @@ PrintsIn records texts p r q = Prints q (handed records texts p) (left records t
 abbrev pub SaysIn : Lent → Lent → Printed → Printed → List Item → Type 0
 SaysIn records texts p r xs = Says xs (handed records texts p) (left records texts r)
 
--- the number that the next list gets, 0 where printing does not go on
-unfoldable pub nextRun : Printed → ℕ
-nextRun (Done c) = c .runs
-nextRun (Stopped e) = 0
-nextRun Full = 0
-
 -- no counts yet
 abbrev pub noCounts : Counts
 noCounts = record { records = 0; texts = 0; runs = 0; marks = 0; lines = 0 }

@@ -9,8 +9,8 @@ ghost use mathlib.Core.Path.{_≡_};
 ghost use mathlib.Core.List.{List};
 ghost use Prim.Native.Nat.{ℕ, max, _+_, _<_, _^_};
 ghost use lib.ListN.{length, set};
-ghost use Rattle.items.specs.Item.{say, openRun, stopped, text, signal, signalKind, conditionTest, mark, runEnd, again, ifTest};
-ghost use Rattle.items.specs.Machine.{held, Prints, PrintsIn, store, storeRecord, nextRun, noCounts};
+ghost use Rattle.items.specs.Item.{say, runAt, text, signal, signalKind, conditionTest, mark, runEnd, again, ifTest};
+ghost use Rattle.items.specs.Machine.{PrintsIn, store, storeRecord, noCounts};
 ghost use Rattle.items.specs.Entry.{Emitted, InRange, entryOf, grownWith, plainEntry, roomFor, storeEntry};
 ghost use Rattle.items.specs.declared.Printed.the-variants.{Done};
 
@@ -57,37 +57,37 @@ pub const RECORD: usize = 3;
 // The kinds of records.
 pub const TEXT: u32 = 1;
 
-const NEW_LINE: u32 = 2;
+pub const NEW_LINE: u32 = 2;
 
-const SPACE_OR_NEW_LINE: u32 = 3;
+pub const SPACE_OR_NEW_LINE: u32 = 3;
 
-const TAB: u32 = 4;
+pub const TAB: u32 = 4;
 
-const INDENT: u32 = 5;
+pub const INDENT: u32 = 5;
 
-const OUTDENT: u32 = 6;
+pub const OUTDENT: u32 = 6;
 
-const MARK: u32 = 7;
+pub const MARK: u32 = 7;
 
-const GROUP: u32 = 8;
+pub const GROUP: u32 = 8;
 
-const GROUP_END: u32 = 9;
+pub const GROUP_END: u32 = 9;
 
-const BLOCK: u32 = 10;
+pub const BLOCK: u32 = 10;
 
-const BLOCK_END: u32 = 11;
+pub const BLOCK_END: u32 = 11;
 
-const RUN: u32 = 12;
+pub const RUN: u32 = 12;
 
-const RUN_END: u32 = 13;
+pub const RUN_END: u32 = 13;
 
-const AGAIN: u32 = 14;
+pub const AGAIN: u32 = 14;
 
 pub const IF: u32 = 15;
 
-const ELSE: u32 = 16;
+pub const ELSE: u32 = 16;
 
-const END_IF: u32 = 17;
+pub const END_IF: u32 = 17;
 
 // The first operand of a condition.
 const ALWAYS: u64 = 0;
@@ -261,16 +261,6 @@ pub fn start() -> Printed
     })
 }
 
-// The number that the next list gets.
-pub fn next_run(p: Printed) -> Run
-    ensures { λ r. ⌜ r .0 ≡ nextRun p ⌝ }
-{
-    let Printed::Done(c) = p else {
-        return Run(0);
-    };
-    Run(c.runs)
-}
-
 // Prints a text, also one of no bytes.
 pub fn print_text(records: &mut [u32], texts: &mut [u8], s: &[u8], p: Printed) -> Printed
     ensures { λ r. ⌜ PrintsIn records texts p r (say (text (now (s .entry)))) ⌝ }
@@ -292,7 +282,7 @@ pub fn print_text(records: &mut [u32], texts: &mut [u8], s: &[u8], p: Printed) -
 }
 
 // The kind of an item without operands.
-fn signal_kind(s: Signal) -> u32
+pub fn signal_kind(s: Signal) -> u32
     ensures { λ r. ⌜ r ≡ signalKind s ⌝ }
 {
     match s {
@@ -332,11 +322,10 @@ pub fn print_mark(records: &mut [u32], texts: &mut [u8], m: Mark, p: Printed) ->
     emit(records, e, p)
 }
 
-// Begins the run of the next list.
-pub fn open_run(records: &mut [u32], texts: &mut [u8], p: Printed) -> Printed
-    ensures { λ r. ⌜ PrintsIn records texts p r openRun ⌝ }
+// Begins a run with a number.
+pub fn print_run(records: &mut [u32], texts: &mut [u8], k: Run, p: Printed) -> Printed
+    ensures { λ r. ⌜ PrintsIn records texts p r (runAt (k .0)) ⌝ }
 {
-    let k = next_run(p);
     let e = Entry {
         kind: RUN,
         first: k.0 as u64,
@@ -377,14 +366,4 @@ pub fn print_if(records: &mut [u32], texts: &mut [u8], t: Condition, p: Printed)
     ensures { λ r. ⌜ PrintsIn records texts p r (say (ifTest (conditionTest t))) ⌝ }
 {
     emit(records, condition_entry(t), p)
-}
-
-// Stops at an element, where printing still goes on.
-pub fn stop_at(e: Element, p: Printed) -> Printed
-    ensures { λ r. ⌜ ((rs ts : List ℕ) → Prints (stopped (e .0)) (held rs ts p) (held rs ts r)) ⌝ }
-{
-    let Printed::Done(_) = p else {
-        return p;
-    };
-    Printed::Stopped(e)
 }

@@ -8,6 +8,8 @@ use lib.Dec.{leb, eqb}
 use borrow.Author.Tests.{ne-eqb, lt-leb, leb-false, eqb-false}
 use Rattle.items.specs.Item.{Print, text, say}
 use Rattle.tree.specs.Index.{kindAt, textAt}
+use Rattle.tree.proofs.Children.{table}
+use Rattle.plan.specs.Ops.{operandLimit}
 use Rattle.printer.specs.Layout.{layout}
 use Rattle.printer.specs.Print.{element, row}
 use Rattle.printer.specs.Under.{At, under, printOf, partsOf}
@@ -33,10 +35,6 @@ rowed-rest k h a b c d e f = go (leb 64 k) refl (eqb k 56) refl h
     go false p true q h = absurd (false≢true (sym h))
     go false p false q h = record { small = leb-false 64 k p; visibility = eqb-false k 56 q; expr = a; array = b; local = c; comp = d; members = e; args = f }
 
--- the kind of an argument
-pub rowed-arg : (k : ℕ) → k ≡ 48 → Rowed k
-rowed-arg k e = record { small = omega arith; visibility = λ h. omega arith; expr = λ h. omega arith; array = λ h. omega arith; local = λ h. omega arith; comp = λ h. omega arith; members = λ h. omega arith; args = λ h. omega arith }
-
 -- a kind with a row is a node's
 pub rowed-small : (index : List ℕ) (i : ℕ) {k : ℕ} → k ≡ kindAt index i → Rowed k → kindAt index i < 64
 rowed-small index i e r = rw e at (r .small)
@@ -60,3 +58,7 @@ module _ {image index : List ℕ} {i k : ℕ} (t : At image index i) (e : k ≡ 
   pub node-row : Rowed k → printOf image i ≡ row (under image i) (partsOf image index i) (layout (kindAt index i))
   unfolding element
   node-row r = node-is t ∙ rw (← e, lt-leb 64 k (r .small), ne-eqb k 56 (r .visibility), ne-eqb k 2 (r .expr), ne-eqb k 10 (r .array), ne-eqb k 22 (r .local), ne-eqb k 26 (r .comp), ne-eqb k 27 (r .members), ne-eqb k 47 (r .args))
+
+-- the number of an element has room in an operation
+pub element-fits : {image index : List ℕ} {i : ℕ} → At image index i → i < operandLimit
+element-fits h = omega (arith, h .within, table (h .indexed) .few)

@@ -13,8 +13,9 @@ use borrow.Author.Tests.{ne-eqb, eqb-true, eqb-false, leb-true}
 use Rattle.text.specs.Basic.{ascii, isNil}
 use Rattle.text.proofs.Table.{tabled-at}
 use Rattle.items.specs.Item.{Print, _⨟_, none, lit, when, say, newline}
-use Rattle.items.specs.Machine.{Held, Prints}
-use Rattle.items.proofs.Laws.{_▸_, by, idle}
+use Rattle.plan.specs.Ops.{sourceAt}
+use Rattle.plan.specs.Plans.{Held, Plans}
+use Rattle.plan.proofs.Laws.{_▸_, by, idle}
 use Rattle.tree.proofs.Accepted.{or-false}
 use Rattle.tree.specs.Tree.{Part}
 use Rattle.tree.specs.declared.class.Class.{Class}
@@ -29,7 +30,8 @@ use Rattle.printer.specs.declared.rows.Extent.{Extent}
 use Rattle.printer.specs.Layout
 use Rattle.printer.specs.Layout.{asked, layout, rows}
 use Rattle.printer.specs.Print.{eachOf, what, row}
-use Rattle.printer.specs.Rows.{words, wordAt, wordOrNone, wantAt, whatOf, pieceOf, allPieces, pieceAt, settled, Coded, RowOf, pieceCount, wordCount}
+use Rattle.plan.specs.Words.{words, wordAt, wordOrNone, wordCount}
+use Rattle.printer.specs.Rows.{wantAt, whatOf, pieceOf, allPieces, pieceAt, settled, Coded, RowOf, pieceCount}
 use Rattle.printer.proofs.Seq.{Goes, goes-none, goes-more, goes-all, seq-assoc, none-first, none-last}
 use Rattle.printer.specs.Under.{At, Kid, under, partsOf, printOf}
 use Rattle.printer.specs.Reads.{numberOr, partFor, Has}
@@ -41,7 +43,7 @@ use Rattle.printer.proofs.Readings.{part-number, behind-kid}
 -- The pieces from n on are still to be printed, of the row of element i.
 pub record Rowing (image index : List ℕ) (i end : ℕ) (o a : Held) (n : ℕ) : Type 0 where
   pub few : end ≤ pieceCount
-  pub goes : Goes (row (under image i) (partsOf image index i) (layout (kindAt index i))) (row (under image i) (partsOf image index i) (take (end - n) (drop n allPieces))) o a
+  pub goes : Goes (sourceAt image index) (row (under image i) (partsOf image index i) (layout (kindAt index i))) (row (under image i) (partsOf image index i) (take (end - n) (drop n allPieces))) o a
 
 pieces-count : length allPieces ≡ pieceCount
 unfolding allPieces rows flatten
@@ -52,7 +54,7 @@ module _ {image index : List ℕ} {i : ℕ} {o : Held} where
   rowing-none r q = record { few = r .within; goes = rw (r .pieces-of, q) (goes-none _ o) }
 
   pub rowing-more : {end n m : ℕ} {a b : Held} → Rowing image index i end o a n → n < end
-      → Prints (when (asked (partsOf image index i) (pieceAt n)) (what (under image i) (partsOf image index i) (pieceAt n .what))) a b → m ≡ n + 1 → Rowing image index i end o b m
+      → Plans (sourceAt image index) (when (asked (partsOf image index i) (pieceAt n)) (what (under image i) (partsOf image index i) (pieceAt n .what))) a b → m ≡ n + 1 → Rowing image index i end o b m
   unfolding row
   rowing-more {end} {n} {m} r h p e =
       let q : end - n ≡ suc (end - suc n) = omega arith in
@@ -66,7 +68,7 @@ module _ {image index : List ℕ} {i : ℕ} {o : Held} where
   pub rowing-in : {end n : ℕ} {a : Held} → Rowing image index i end o a n → n < end → n < pieceCount
   rowing-in r h = omega (arith, r .few)
 
-  pub rowing-all : {end n : ℕ} {a : Held} → Rowing image index i end o a n → end ≤ n → Prints (row (under image i) (partsOf image index i) (layout (kindAt index i))) o a
+  pub rowing-all : {end n : ℕ} {a : Held} → Rowing image index i end o a n → end ≤ n → Plans (sourceAt image index) (row (under image i) (partsOf image index i) (layout (kindAt index i))) o a
   unfolding row
   rowing-all {end} {n} r h = let q : end - n ≡ 0 = omega arith in goes-all (r .goes) (rw q)
 
@@ -181,8 +183,8 @@ front-word w h = sym (tabled-at true wordCount (λ w. isNil (ascii (wordAt w))) 
 
 -- a part of the class: the text in front, the part, and what ends it
 pub each-one : {image index : List ℕ} {i j : ℕ} (w : ℕ) (c : Class) (ended : Bool) {o a b d : Held} → w < wordCount → Kid image index i j → oneOf (kinds c) (kindAt index j) ≡ true
-    → Prints (wordOrNone w) o a → Prints (printOf image j) a b → Prints (when ended (lit "," ⨟ say newline)) b d
-    → Prints (eachOf (under image i) c (wordAt w) ended (partAt image index j ∷ [])) o d
+    → Plans (sourceAt image index) (wordOrNone w) o a → Plans (sourceAt image index) (printOf image j) a b → Plans (sourceAt image index) (when ended (lit "," ⨟ say newline)) b d
+    → Plans (sourceAt image index) (eachOf (under image i) c (wordAt w) ended (partAt image index j ∷ [])) o d
 unfolding eachOf wordOrNone
 each-one w c ended l k h x y z = by (rw (h, front-word w l)) (by (front w) x ▸ by (kid-print k) y ▸ z ▸ idle)
   where
@@ -198,7 +200,7 @@ pub record Eaching (image index : List ℕ) (i : ℕ) (c : Class) (s : String) (
   pub at : At image index i
   pub reached : Stretch image index (i + 1) j
   pub region : Region image index j (endAt index i)
-  pub goes : Goes (eachOf (under image i) c s ended (partsOf image index i)) (eachOf (under image i) c s ended (partsFrom image index j (endAt index i))) o a
+  pub goes : Goes (sourceAt image index) (eachOf (under image i) c s ended (partsOf image index i)) (eachOf (under image i) c s ended (partsFrom image index j (endAt index i))) o a
 
 module _ {image index : List ℕ} {i : ℕ} {o : Held} where
   pub eaching-none : (c : Class) (s : String) (ended : Bool) {j : ℕ} → At image index i → j ≡ i + 1 → Eaching image index i c s ended o o j
@@ -212,7 +214,7 @@ module _ {image index : List ℕ} {i : ℕ} {o : Held} where
     pub eaching-less : {k : ℕ} → j < end → k ≡ endAt index j → end - k < end - j
     eaching-less h q = omega (arith, region-past (r .region) (omega (arith, e)))
 
-    pub eaching-more : {k : ℕ} {b : Held} → j < end → k ≡ endAt index j → Prints (eachOf (under image i) c s ended (partAt image index j ∷ [])) a b → Eaching image index i c s ended o b k
+    pub eaching-more : {k : ℕ} {b : Held} → j < end → k ≡ endAt index j → Plans (sourceAt image index) (eachOf (under image i) c s ended (partAt image index j ∷ [])) a b → Eaching image index i c s ended o b k
     eaching-more h q p =
         let g : j < endAt index i = omega (arith, e) in
         rw q (record {
@@ -222,6 +224,6 @@ module _ {image index : List ℕ} {i : ℕ} {o : Held} where
           goes = goes-more (r .goes) (ap (eachOf (under image i) c s ended) (region-part (r .region) g) ∙ each-cons (under image i) c s ended _ _) p;
         })
 
-    pub eaching-all : end ≤ j → Prints (eachOf (under image i) c s ended (partsOf image index i)) o a
+    pub eaching-all : end ≤ j → Plans (sourceAt image index) (eachOf (under image i) c s ended (partsOf image index i)) o a
     unfolding eachOf
     eaching-all h = goes-all (r .goes) (rw (parts-over index image j (endAt index i) (omega (arith, e))))

@@ -2,8 +2,9 @@
 use mathlib.Core.Path.{_≡_, refl}
 use mathlib.Core.List.{List, [], _++_, append-nil, append-assoc}
 use Rattle.items.specs.Item.{Item, Out, stop, ok, Print, after, next, _⨟_, none}
-use Rattle.items.specs.Machine.{Held, Prints}
-use Rattle.items.proofs.Laws.{idle, _▸_, by}
+use Rattle.plan.specs.Ops.{Source}
+use Rattle.plan.specs.Plans.{Held, Plans}
+use Rattle.plan.proofs.Laws.{idle, _▸_, by}
 
 after-both : (xs ys : List Item) (o : Out) → after (xs ++ ys) o ≡ after xs (after ys o)
 after-both xs ys (stop zs e) = rw (append-assoc xs ys zs)
@@ -43,14 +44,14 @@ unfolding _⨟_
 none-last p = λ i k. next-none (p k) i
 
 -- A loop that prints: whoever prints the rest from here has printed the whole.
-pub record Goes (whole rest : Print) (o a : Held) : Type 0 where
-  pub rest-of : {b : Held} → Prints rest a b → Prints whole o b
+pub record Goes (src : Source) (whole rest : Print) (o a : Held) : Type 0 where
+  pub rest-of : {b : Held} → Plans src rest a b → Plans src whole o b
 
-pub goes-none : (p : Print) (o : Held) → Goes p p o o
+pub goes-none : {src : Source} (p : Print) (o : Held) → Goes src p p o o
 goes-none p o = record { rest-of = λ h. h }
 
-pub goes-more : {p r x r′ : Print} {o a b : Held} → Goes p r o a → r ≡ x ⨟ r′ → Prints x a b → Goes p r′ o b
+pub goes-more : {src : Source} {p r x r′ : Print} {o a b : Held} → Goes src p r o a → r ≡ x ⨟ r′ → Plans src x a b → Goes src p r′ o b
 goes-more g e h = record { rest-of = λ k. g .rest-of (by e (h ▸ k)) }
 
-pub goes-all : {p r : Print} {o a : Held} → Goes p r o a → r ≡ none → Prints p o a
+pub goes-all : {src : Source} {p r : Print} {o a : Held} → Goes src p r o a → r ≡ none → Plans src p o a
 goes-all g e = g .rest-of (by e idle)

@@ -18,7 +18,7 @@ use Rattle.tree.specs.Index.{endAt, partAt, partsFrom}
 use Rattle.children.specs.declared.between.Bounds.{Bounds}
 use Rattle.children.specs.declared.gap.Span.{Span}
 use Rattle.children.specs.Reading.{Child, Ending, Reading, foreign, read}
-use Rattle.children.specs.Comments.{comments}
+use Rattle.plan.specs.Comments.{comments}
 use Rattle.children.specs.Gaps.{Gap, Gaps, gapOf, gaps}
 use Rattle.children.specs.Gaps as G
 use Rattle.children.specs.Whole.{childAt, closedBy, preceded, readFrom, readingOf}

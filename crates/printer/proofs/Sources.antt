@@ -12,7 +12,7 @@ use Rattle.tree.specs.declared.class.Class.the-variants as Class
 use Rattle.tree.specs.Class.{first, numberOf, allOf}
 use Rattle.tree.specs.Index.{Indexed, Region, endAt, partsFrom}
 use Rattle.children.specs.declared.around.Notes.{Notes}
-use Rattle.children.specs.Comments.{comments}
+use Rattle.plan.specs.Comments.{comments}
 use Rattle.children.specs.Reading.{triviaBefore, triviaAfter}
 use Rattle.children.specs.Stretch.{notes}
 use Rattle.children.specs.Between.{Beside, aroundAt}

@@ -8,49 +8,16 @@ use lib.Dec.{leb, ltb}
 use lib.ListN.{length, getD, take, drop}
 use borrow.Author.Tests.{eq-eqb, ne-eqb, leb-true, ltb-true}
 use Rattle.text.specs.Basic.{sum}
-use Rattle.text.specs.Words.{joinedWords, wordStart}
 use Rattle.text.proofs.Table.{tabled, tabled-at}
-use Rattle.text.proofs.Words as W
 use Rattle.text.proofs.Below.{allBelow, below}
 use Rattle.text.proofs.Lists.{and-true}
-use Rattle.items.specs.Item.{text, none, say, lit}
-use Rattle.items.specs.Machine.{Held, Prints}
-use Rattle.items.proofs.Laws.{by}
 use Rattle.tree.specs.Class.{kinds}
 use Rattle.printer.specs.declared.rows.Entry.{Entry}
 use Rattle.printer.specs.declared.rows.Extent.{Extent}
 use Rattle.printer.specs.Layout
 use Rattle.printer.specs.Layout.{rows, layout}
-use Rattle.printer.specs.Rows.{words, wordAt, wordOrNone, wordCount, wantCount, pieceCount, wantAt, pieceOf, settled, allPieces, EntryIn, Coded, RowOf}
-
--- ---- texts
-
--- there are so many
-words-counted : length words ≡ wordCount
-unfolding words
-words-counted = refl
-
-module _ (w : ℕ) {a b : ℕ} (h : w < wordCount) (e : a ≡ wordStart words w) (f : b ≡ wordStart words (w + 1)) where
-  pub start-le : a ≤ b
-  start-le = W.start-le words w (rw words-counted h) e f
-
-  pub end-in : b ≤ length (joinedWords words)
-  end-in = W.end-in words w (rw words-counted h) e f
-
-  -- what is printed from where a text starts to where the next one starts is the text
-  pub word-said : {o r : Held} → Prints (say (text (take (b - a) (drop a (joinedWords words))))) o r → Prints (lit (wordAt w)) o r
-  unfolding lit
-  word-said k = by (ap (λ (s : List ℕ). say (text s)) (W.word-part words w (rw words-counted h) e f)) k
-
--- number 0 prints nothing
-pub word-none : (w : ℕ) → w ≡ 0 → wordOrNone w ≡ none
-unfolding wordOrNone
-word-none w h = rw (eq-eqb w 0 h)
-
--- any other prints its text
-pub word-some : (w : ℕ) → (w ≡ 0 → ⊥) → wordOrNone w ≡ lit (wordAt w)
-unfolding wordOrNone
-word-some w h = rw (ne-eqb w 0 h)
+use Rattle.plan.specs.Words.{words, wordAt, wordOrNone, wordCount}
+use Rattle.printer.specs.Rows.{wantCount, pieceCount, wantAt, pieceOf, settled, allPieces, EntryIn, Coded, RowOf}
 
 -- ---- wanted parts
 

@@ -8,8 +8,9 @@ use native.Mathlib.Omega.{arith}
 use lib.Dec.{eqb}
 use lib.ListN.{length}
 use Rattle.items.specs.Item.{Test, Print, stopped}
-use Rattle.items.specs.Machine.{Held, Prints}
-use Rattle.items.proofs.Laws.{by}
+use Rattle.plan.specs.Ops.{sourceAt}
+use Rattle.plan.specs.Plans.{Held, Plans}
+use Rattle.plan.proofs.Laws.{by}
 use Rattle.tree.specs.declared.class.Class.{Class}
 use Rattle.tree.specs.declared.class.Kinds.{Kinds}
 use Rattle.tree.specs.Class.{kinds}
@@ -100,21 +101,21 @@ module _ {image index : List ℕ} {i : ℕ} {w : Kinds} {loose : Bool} {b next :
 -- The children from the gap s on are still to be printed, of those from the gap s₀ on.
 pub record Walking (image index : List ℕ) (i : ℕ) (w : Kinds) (loose : Bool) (b : ℕ) (style : Style) (t : Test) (s₀ : Span) (o a : Held) (s : Span) : Type 0 where
   pub walks : Walks image index i w loose b s
-  pub goes : Goes (walked (under image i) (onLine style t) (behindIt style t) (spanned image index w loose b s₀)) (walked (under image i) (onLine style t) (behindIt style t) (spanned image index w loose b s)) o a
+  pub goes : Goes (sourceAt image index) (walked (under image i) (onLine style t) (behindIt style t) (spanned image index w loose b s₀)) (walked (under image i) (onLine style t) (behindIt style t) (spanned image index w loose b s)) o a
 
 module _ {image index : List ℕ} {i : ℕ} {w : Kinds} {loose : Bool} {b : ℕ} {style : Style} {t : Test} {s : Span} {o : Held} where
   pub walking-none : (c : Class) → w ≡ kinds c → Walks image index i (kinds c) loose b s → Walking image index i w loose b style t s o o s
   walking-none c k h = record { walks = rw k h; goes = goes-none _ o }
 
   pub walking-more : {s₀ g : Span} {a d : Held} {next : ℕ} → Walking image index i w loose b style t s₀ o a s → s .end ≡ 0 → next ≡ endAt index (s .to) → Spans image index w loose true next b g
-      → Prints (around (under image i) (onLine style t) (behindIt style t) (gapAt image index s) (s .to) (gapAt image index g) (eqb (g .end) 0)) a d → Walking image index i w loose b style t s₀ o d g
+      → Plans (sourceAt image index) (around (under image i) (onLine style t) (behindIt style t) (gapAt image index s) (s .to) (gapAt image index g) (eqb (g .end) 0)) a d → Walking image index i w loose b style t s₀ o d g
   walking-more h e q k p = record {
     walks = walks-next (h .walks) e q k;
     goes = goes-more (h .goes) (walk-next (under image i) (onLine style t) (behindIt style t) (h .walks .through) e q k) p;
   }
 
   pub walking-all : (c : Class) {s₀ : Span} {a : Held} → w ≡ kinds c → Walking image index i w loose b style t s₀ o a s → (s .end ≡ 0 → ⊥)
-      → Prints (walked (under image i) (onLine style t) (behindIt style t) (spanned image index (kinds c) loose b s₀)) o a
+      → Plans (sourceAt image index) (walked (under image i) (onLine style t) (behindIt style t) (spanned image index (kinds c) loose b s₀)) o a
   walking-all c k h e = rw (← k) (goes-all (h .goes) (walk-none index image w loose b s (under image i) (onLine style t) (behindIt style t) e))
 
 -- ---- children without what stands around them
@@ -122,11 +123,11 @@ module _ {image index : List ℕ} {i : ℕ} {w : Kinds} {loose : Bool} {b : ℕ}
 -- The values from the gap s on are still to be printed, of those from the gap s₀ on.
 pub record Valuing (image index : List ℕ) (i : ℕ) (w : Kinds) (loose : Bool) (b : ℕ) (s₀ : Span) (o a : Held) (s : Span) : Type 0 where
   pub walks : Walks image index i w loose b s
-  pub goes : Goes (valued (under image i) (spanned image index w loose b s₀)) (valued (under image i) (spanned image index w loose b s)) o a
+  pub goes : Goes (sourceAt image index) (valued (under image i) (spanned image index w loose b s₀)) (valued (under image i) (spanned image index w loose b s)) o a
 
 module _ {image index : List ℕ} {i : ℕ} {w : Kinds} {s : Span} {o : Held} where
   pub valuing-more : {loose : Bool} {b : ℕ} {s₀ g : Span} {a d : Held} {next : ℕ} → Valuing image index i w loose b s₀ o a s → s .end ≡ 0 → next ≡ endAt index (s .to)
-      → Spans image index w loose true next b g → Prints (printOf image (s .to)) a d → Valuing image index i w loose b s₀ o d g
+      → Spans image index w loose true next b g → Plans (sourceAt image index) (printOf image (s .to)) a d → Valuing image index i w loose b s₀ o d g
   valuing-more h e q k p = record {
     walks = walks-next (h .walks) e q k;
     goes = goes-more (h .goes) (value-next (under image i) s e q k) (by (kid-print (walks-kid (h .walks) e)) p);
@@ -139,7 +140,7 @@ module _ {image index : List ℕ} {i : ℕ} {w : Kinds} {z : Bounds} {s : Span} 
 
   -- the values of a reading
   pub valuing-all : (c : Class) {s₀ : Span} {a : Held} {out : Outline} → w ≡ kinds c → Spans image index w (z .loose) false (z .from) (z .to) s₀ → Outlined image index (readAt image index c z nothing) out
-      → Valuing image index i w (z .loose) (z .to) s₀ o a s → (s .end ≡ 0 → ⊥) → Prints (valuesOf (under image i) (readAt image index c z nothing)) o a
+      → Valuing image index i w (z .loose) (z .to) s₀ o a s → (s .end ≡ 0 → ⊥) → Plans (sourceAt image index) (valuesOf (under image i) (readAt image index c z nothing)) o a
   unfolding valuesOf
   valuing-all c k p x h e =
       by (rw (x .is, value-read (under image i) _ (sym (whole c (z .loose) _) ∙ x .is), ← k, p .read))

@@ -4,7 +4,7 @@ use Prim.Native.Nat.{ℕ, _+_, _*_}
 use Prim.Native.String.{String}
 use Rattle.items.specs.Item.{Test, always, lines, newline, spaceOrNewline, mark, group, groupEnd, ifTest, elseItem, endIf, Print, _⨟_, say, lit, when, withNumber}
 use Rattle.comments.specs.Comments.{endOfItems}
-use Rattle.children.specs.Comments.{comments}
+use Rattle.plan.specs.Comments.{comments}
 use Rattle.children.specs.Reading.{Ending}
 
 -- if(should_start_with_newline)(nl)

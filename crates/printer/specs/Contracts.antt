@@ -19,7 +19,7 @@ use Rattle.children.specs.declared.between.Bounds.{Bounds}
 use Rattle.children.specs.declared.gap.Span.{Span}
 use Rattle.children.specs.declared.survey.Outline.{Outline}
 use Rattle.children.specs.Between.{Bounded}
-use Rattle.children.specs.Comments.{comments}
+use Rattle.plan.specs.Comments.{comments}
 use Rattle.children.specs.Gaps.{Gap}
 use Rattle.children.specs.Reading.{Child, Ending, Reading, enclosed}
 use Rattle.children.specs.Spans.{gapAt, spanned}
@@ -29,7 +29,8 @@ use Rattle.printer.specs.declared.lists.Style.{Style}
 use Rattle.printer.specs.declared.rows.Entry.{Entry}
 use Rattle.printer.specs.Layout.{Piece, asked}
 use Rattle.printer.specs.Print.{eachOf, what, children, list}
-use Rattle.printer.specs.Rows.{wantAt, wordAt}
+use Rattle.plan.specs.Words.{wordAt}
+use Rattle.printer.specs.Rows.{wantAt}
 use Rattle.printer.specs.Lists.{onLine, behindIt, following, endingOf, openerOf, closerOf, childOf, emptyText, openText, closeText}
 use Rattle.printer.specs.Under.{under, partsOf}
 use Rattle.printer.specs.Walked.{around, walked}

@@ -8,7 +8,7 @@ use Rattle.items.specs.Item.{Test, newline, mark, group, groupEnd, block, block
 use Rattle.tree.specs.declared.class.Class.{Class}
 use Rattle.tree.specs.declared.class.Class.the-variants.{Expr, Member, LBrack, RBrack, LBrace, RBrace}
 use Rattle.comments.specs.Comments.{aboveItem, itemInline}
-use Rattle.children.specs.Comments.{comments}
+use Rattle.plan.specs.Comments.{comments}
 use Rattle.children.specs.Gaps.{Gap, newlinesAt}
 use Rattle.children.specs.Reading.{Ending}
 use Rattle.children.specs.Spans.{gapAt}

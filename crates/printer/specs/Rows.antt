@@ -1,4 +1,4 @@
--- What the numbers in the code's tables mean: texts, wanted parts and pieces of rows.
+-- What the numbers in the code's tables mean: wanted parts and pieces of rows.
 use mathlib.Core.Path.{_≡_}
 use mathlib.Core.Bool.{Bool, true, false, cond, not, _||_}
 use mathlib.Core.List.{List, [], _∷_, _++_, flatten, map}
@@ -6,41 +6,12 @@ use Prim.Native.Nat.{ℕ, _+_, _*_, _-_, _<_, _≤_}
 use Prim.Native.String.{String}
 use lib.Dec.{leb, eqb}
 use lib.ListN.{getD, take, drop}
-use Rattle.text.specs.Words.{wordIn}
 use Rattle.items.specs.declared.Signal.the-variants.{NewLine, StartIndent, FinishIndent}
-use Rattle.items.specs.Item.{Print, none, lit}
 use Rattle.tree.specs.declared.class.Class.the-variants as Class
+use Rattle.plan.specs.Words.{wordAt, wordCount}
 use Rattle.printer.specs.declared.rows.Entry.{Entry}
 use Rattle.printer.specs.declared.rows.Extent.{Extent}
 use Rattle.printer.specs.Layout.{Want, What, txt, bare, part, opt, each, plus, Piece, Row, firstOf, secondOf, t, rows, layout}
-
--- the texts of the formatter's own, by their numbers
-unfoldable pub words : List String
-words =
-    "" ∷ "," ∷ " " ∷ "[ ]" ∷ "[" ∷ "]" ∷ "{ }" ∷ "{" ∷ "}" ∷ "(" ∷ ")" ∷ "local" ∷ "local " ∷ ";" ∷ "/*missing ExprBase*/" ∷ "/*missing Expr*/"
-    ∷ "/*missing BinaryOperator*/" ∷ "/*missing UnaryOperator*/" ∷ "/*missing Text*/" ∷ "/*missing Number*/" ∷ "/*missing Literal*/"
-    ∷ "/*missing ObjBody*/" ∷ "/*missing ImportKind*/" ∷ "/*missing Name*/" ∷ "if " ∷ " then " ∷ "/*missing core::option::Option<Expr>*/"
-    ∷ " else " ∷ "function" ∷ "/*missing ParamsDesc*/" ∷ "error " ∷ "?" ∷ "." ∷ ".?" ∷ "/*missing SliceDesc*/" ∷ "/*missing ArgsDesc*/"
-    ∷ "/*missing Assertion*/" ∷ "/*missing Destruct*/" ∷ " = " ∷ "/*missing ObjLocal*/" ∷ "/*missing FieldName*/" ∷ "/*missing Visibility*/"
-    ∷ "for " ∷ " in " ∷ "for [" ∷ "..." ∷ ":" ∷ "/*missing Bind*/" ∷ "assert " ∷ ": "
-    ∷ []
-
--- how many they are
-abbrev pub wordCount : ℕ
-wordCount = 50
-
--- the text with a number
-abbrev pub wordAt : ℕ → String
-wordAt w = wordIn words w
-
--- w is the number of a text.
-pub record Word (w : ℕ) (s : String) : Type 0 where
-  pub known : w < wordCount
-  pub text : wordAt w ≡ s
-
--- the text with a number; number 0 is no text at all
-unfoldable pub wordOrNone : ℕ → Print
-wordOrNone w = cond (eqb w 0) none (lit (wordAt w))
 
 -- the parts that rows want, by their numbers from 1
 unfoldable pub wants : List Want

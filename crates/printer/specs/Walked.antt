@@ -11,7 +11,7 @@ use Rattle.tree.specs.Tree.{Part}
 use Rattle.tree.specs.declared.class.Kinds.{Kinds}
 use Rattle.children.specs.declared.gap.Span.{Span}
 use Rattle.children.specs.declared.survey.Outline.{Outline}
-use Rattle.children.specs.Comments.{comments}
+use Rattle.plan.specs.Comments.{comments}
 use Rattle.children.specs.Reading.{Child, Ending, Reading, read, anyManyLines}
 use Rattle.children.specs.Gaps.{Gap, gapOf, newlinesAt, Gaps}
 use Rattle.children.specs.Gaps as G

@@ -1,33 +1,32 @@
 // What stands around the children of a list, and what opens and closes one.
-use super::words::COMMA;
-use super::words::EMPTY_ARRAY;
-use super::words::EMPTY_OBJECT;
-use super::words::LEFT_BRACE;
-use super::words::LEFT_BRACKET;
-use super::words::LOCAL;
-use super::words::RIGHT_BRACE;
-use super::words::RIGHT_BRACKET;
-use super::words::SPACE;
-use super::words::print_word;
 use children::gap::AT_CHILD;
 use children::gap::Span;
 use children::newlines::blank_line;
-use children::print::print_inline;
-use children::print::print_waiting;
 use children::survey::Outline;
 use children::survey::nothing_waits;
 use comments::CommentLocation;
 use items::Condition;
-use items::Printed;
 use items::Signal;
-use items::end_run;
-use items::open_run;
-use items::print_again;
-use items::print_if;
-use items::print_mark;
-use items::print_signal;
 use numbers::Mark;
 use numbers::Run;
+use plan::end_run;
+use plan::notes::plan_inline;
+use plan::notes::plan_waiting;
+use plan::open_run;
+use plan::plan_again;
+use plan::plan_if;
+use plan::plan_mark;
+use plan::plan_signal;
+use plan::plan_word;
+use plan::words::COMMA;
+use plan::words::EMPTY_ARRAY;
+use plan::words::EMPTY_OBJECT;
+use plan::words::LEFT_BRACE;
+use plan::words::LEFT_BRACKET;
+use plan::words::LOCAL;
+use plan::words::RIGHT_BRACE;
+use plan::words::RIGHT_BRACKET;
+use plan::words::SPACE;
 use tree::class::Class;
 ghost use mathlib.Core.Path.{_≡_};
 ghost use mathlib.Core.Bool.{false, not, _&&_};
@@ -35,10 +34,10 @@ ghost use Prim.Native.Nat.{_+_, _*_, _<_};
 ghost use lib.Dec.{eqb};
 ghost use Rattle.text.specs.Basic.{isNil};
 ghost use Rattle.items.specs.Item.{newline, indent, outdent, _⨟_, say, lit, when, conditionTest};
-ghost use Rattle.items.specs.Machine.{PrintsIn};
 ghost use Rattle.children.specs.Spans.{Lies};
+ghost use Rattle.plan.specs.Words.{wordAt, Word, wordCount};
+ghost use Rattle.plan.specs.Plans.{PlansIn, PlansAny};
 ghost use Rattle.printer.specs.Combine.{newlineIf, onlyIf, comma, separator, ending, testOf};
-ghost use Rattle.printer.specs.Rows.{wordAt, Word, wordCount};
 ghost use Rattle.printer.specs.Lists.{onLine, behindIt, above, openList, endBody, repeatBody, closeBracket, closeList, closeArguments, openerOf, closerOf, childOf, emptyText, openText, closeText};
 ghost use Rattle.printer.specs.Contracts.{gapIn, endingIn, followingIn};
 
@@ -53,177 +52,117 @@ pub enum Style {
 }
 
 // A newline, if it is asked for.
-pub fn newline_if(records: &mut [u32], texts: &mut [u8], b: bool, p: Printed) -> Printed
-    ensures { λ r. ⌜ PrintsIn records texts p r (newlineIf b) ⌝ }
+pub fn newline_if(ops: &mut [u32], cells: &mut [u32; 8], b: bool)
+    ensures { λ _. ⌜ PlansAny ops cells (newlineIf b) ⌝ }
 {
     if b {
-        return print_signal(records, texts, Signal::NewLine, p);
+        plan_signal(ops, cells, Signal::NewLine);
     }
-    p
 }
 
 // A comma, where a test holds.
-fn trailing_comma(records: &mut [u32], texts: &mut [u8], t: Condition, p: Printed) -> Printed
-    ensures { λ r. ⌜ PrintsIn records texts p r (onlyIf (conditionTest t) (lit ",")) ⌝ }
+fn trailing_comma(ops: &mut [u32], cells: &mut [u32; 8], t: Condition)
+    ensures { λ _. ⌜ PlansAny ops cells (onlyIf (conditionTest t) (lit ",")) ⌝ }
 {
-    let a = print_if(records, texts, t, p);
-    let b = print_word(records, texts, COMMA, a);
-    print_signal(records, texts, Signal::EndIf, b)
+    plan_if(ops, cells, t);
+    plan_word(ops, cells, COMMA);
+    plan_signal(ops, cells, Signal::EndIf);
 }
 
 // A newline where a test holds, else a space or newline.
-fn separator(records: &mut [u32], texts: &mut [u8], t: Condition, p: Printed) -> Printed
-    ensures { λ r. ⌜ PrintsIn records texts p r (separator (conditionTest t)) ⌝ }
+fn separator(ops: &mut [u32], cells: &mut [u32; 8], t: Condition)
+    ensures { λ _. ⌜ PlansAny ops cells (separator (conditionTest t)) ⌝ }
 {
-    let a = print_if(records, texts, t, p);
-    let b = print_signal(records, texts, Signal::NewLine, a);
-    let c = print_signal(records, texts, Signal::Else, b);
-    let d = print_signal(records, texts, Signal::SpaceOrNewLine, c);
-    print_signal(records, texts, Signal::EndIf, d)
+    plan_if(ops, cells, t);
+    plan_signal(ops, cells, Signal::NewLine);
+    plan_signal(ops, cells, Signal::Else);
+    plan_signal(ops, cells, Signal::SpaceOrNewLine);
+    plan_signal(ops, cells, Signal::EndIf);
 }
 
 // A comma where more children follow, else one where a test holds.
-fn comma(records: &mut [u32], texts: &mut [u8], more: bool, t: Condition, p: Printed) -> Printed
-    ensures { λ r. ⌜ PrintsIn records texts p r (comma more (conditionTest t)) ⌝ }
+fn comma(ops: &mut [u32], cells: &mut [u32; 8], more: bool, t: Condition)
+    ensures { λ _. ⌜ PlansAny ops cells (comma more (conditionTest t)) ⌝ }
 {
     if more {
-        return print_word(records, texts, COMMA, p);
+        plan_word(ops, cells, COMMA);
+        return;
     }
-    trailing_comma(records, texts, t, p)
+    trailing_comma(ops, cells, t);
 }
 
 // What follows a child on its line.
-fn on_line(
-    records: &mut [u32],
-    texts: &mut [u8],
-    style: Style,
-    t: Condition,
-    more: bool,
-    p: Printed,
-) -> Printed
-    ensures { λ r. ⌜ PrintsIn records texts p r (onLine style (conditionTest t) more) ⌝ }
+fn on_line(ops: &mut [u32], cells: &mut [u32; 8], style: Style, t: Condition, more: bool)
+    ensures { λ _. ⌜ PlansAny ops cells (onLine style (conditionTest t) more) ⌝ }
 {
     match style {
-        Style::Elements => comma(records, texts, more, t, p),
-        Style::Arguments => comma(records, texts, more, t, p),
-        Style::Members => trailing_comma(records, texts, t, p),
-        Style::Specs => p,
-        Style::Binds => print_word(records, texts, COMMA, p),
+        Style::Elements => comma(ops, cells, more, t),
+        Style::Arguments => comma(ops, cells, more, t),
+        Style::Members => trailing_comma(ops, cells, t),
+        Style::Specs => {}
+        Style::Binds => plan_word(ops, cells, COMMA),
     }
 }
 
 // A separator, if more children follow.
-fn separator_if(
-    records: &mut [u32],
-    texts: &mut [u8],
-    more: bool,
-    t: Condition,
-    p: Printed,
-) -> Printed
-    ensures { λ r. ⌜ PrintsIn records texts p r (when more (separator (conditionTest t))) ⌝ }
+fn separator_if(ops: &mut [u32], cells: &mut [u32; 8], more: bool, t: Condition)
+    ensures { λ _. ⌜ PlansAny ops cells (when more (separator (conditionTest t))) ⌝ }
 {
     if more {
-        return separator(records, texts, t, p);
+        separator(ops, cells, t);
     }
-    p
 }
 
 // What stands behind a child and its comments.
-fn behind_it(
-    records: &mut [u32],
-    texts: &mut [u8],
-    style: Style,
-    t: Condition,
-    more: bool,
-    p: Printed,
-) -> Printed
-    ensures { λ r. ⌜ PrintsIn records texts p r (behindIt style (conditionTest t) more) ⌝ }
+fn behind_it(ops: &mut [u32], cells: &mut [u32; 8], style: Style, t: Condition, more: bool)
+    ensures { λ _. ⌜ PlansAny ops cells (behindIt style (conditionTest t) more) ⌝ }
 {
     match style {
-        Style::Elements => separator(records, texts, t, p),
-        Style::Arguments => separator_if(records, texts, more, t, p),
-        Style::Members => separator(records, texts, t, p),
-        Style::Specs => separator(records, texts, t, p),
-        Style::Binds => print_signal(records, texts, Signal::NewLine, p),
+        Style::Elements => separator(ops, cells, t),
+        Style::Arguments => separator_if(ops, cells, more, t),
+        Style::Members => separator(ops, cells, t),
+        Style::Specs => separator(ops, cells, t),
+        Style::Binds => plan_signal(ops, cells, Signal::NewLine),
     }
 }
 
 // What stands before a child: a blank line and the comments above it.
-pub fn print_above(
-    records: &mut [u32],
-    texts: &mut [u8],
-    image: &[u8],
-    index: &[u32],
-    s: Span,
-    p: Printed,
-) -> Printed
+pub fn plan_above(ops: &mut [u32], cells: &mut [u32; 8], image: &[u8], index: &[u32], s: Span)
     requires { ⌜ Lies (now image) (now index) s ⌝ }
-    ensures { λ r. ⌜ PrintsIn records texts p r (above (gapIn image index s)) ⌝ }
+    ensures { λ _. ⌜ PlansIn ops cells image index (above (gapIn image index s)) ⌝ }
 {
     let blank = blank_line(image, index, s);
-    let a = newline_if(records, texts, blank, p);
-    print_waiting(
-        records,
-        texts,
-        image,
-        index,
-        s,
-        CommentLocation::AboveItem,
-        a,
-    )
+    newline_if(ops, cells, blank);
+    plan_waiting(ops, cells, image, index, s, CommentLocation::AboveItem);
 }
 
 // What follows a child, with the gap behind it.
-pub fn print_behind(
-    records: &mut [u32],
-    texts: &mut [u8],
+pub fn plan_behind(
+    ops: &mut [u32],
+    cells: &mut [u32; 8],
     image: &[u8],
     index: &[u32],
     g: Span,
     style: Style,
     t: Condition,
-    p: Printed,
-) -> Printed
+)
     requires { ⌜ Lies (now image) (now index) g ⌝ }
-    ensures { λ r. ⌜ PrintsIn records texts p r (followingIn image index style t g) ⌝ }
+    ensures { λ _. ⌜ PlansIn ops cells image index (followingIn image index style t g) ⌝ }
 {
     let more = g.end == AT_CHILD;
-    let a = on_line(records, texts, style, t, more, p);
-    let b = print_inline(
-        records,
-        texts,
-        image,
-        index,
-        g,
-        CommentLocation::ItemInline,
-        a,
-    );
-    behind_it(records, texts, style, t, more, b)
+    on_line(ops, cells, style, t, more);
+    plan_inline(ops, cells, image, index, g, CommentLocation::ItemInline);
+    behind_it(ops, cells, style, t, more);
 }
 
 // end_comments: a blank line, if one is asked for, and the comments behind the last child.
-pub fn print_ending(
-    records: &mut [u32],
-    texts: &mut [u8],
-    image: &[u8],
-    index: &[u32],
-    o: Outline,
-    p: Printed,
-) -> Printed
+pub fn plan_ending(ops: &mut [u32], cells: &mut [u32; 8], image: &[u8], index: &[u32], o: Outline)
     requires { ⌜ Lies (now image) (now index) (o .last) ⌝ }
-    ensures { λ r. ⌜ PrintsIn records texts p r (ending (endingIn image index o)) ⌝ }
+    ensures { λ _. ⌜ PlansIn ops cells image index (ending (endingIn image index o)) ⌝ }
 {
-    let a = newline_if(records, texts, o.blank, p);
+    newline_if(ops, cells, o.blank);
     let last = o.last;
-    print_waiting(
-        records,
-        texts,
-        image,
-        index,
-        last,
-        CommentLocation::EndOfItems,
-        a,
-    )
+    plan_waiting(ops, cells, image, index, last, CommentLocation::EndOfItems);
 }
 
 // The test for many lines of list k.
@@ -251,97 +190,88 @@ fn second_mark(k: Run) -> Mark
 }
 
 // Opens list k: its bracket and first mark, the branch of many lines, its run and a group.
-pub fn open_list(
-    records: &mut [u32],
-    texts: &mut [u8],
-    bracket: u32,
-    k: Run,
-    t: Condition,
-    p: Printed,
-) -> Printed
+pub fn open_list(ops: &mut [u32], cells: &mut [u32; 8], bracket: u32, k: Run, t: Condition)
     requires { ⌜ bracket < wordCount ⌝ }
-    ensures { λ r. ⌜ PrintsIn records texts p r (openList (wordAt bracket) (k .0) (conditionTest t)) ⌝ }
+    ensures { λ _. ⌜ PlansAny ops cells (openList (wordAt bracket) (k .0) (conditionTest t)) ⌝ }
 {
-    let a = print_word(records, texts, bracket, p);
-    let b = print_mark(records, texts, first_mark(k), a);
-    let c = print_if(records, texts, t, b);
-    let d = print_signal(records, texts, Signal::StartBlock, c);
-    let e = print_signal(records, texts, Signal::NewLine, d);
-    let f = open_run(records, texts, e);
-    print_signal(records, texts, Signal::StartGroup, f)
+    plan_word(ops, cells, bracket);
+    plan_mark(ops, cells, first_mark(k));
+    plan_if(ops, cells, t);
+    plan_signal(ops, cells, Signal::StartBlock);
+    plan_signal(ops, cells, Signal::NewLine);
+    open_run(ops, cells);
+    plan_signal(ops, cells, Signal::StartGroup);
 }
 
 // Ends the group and the run of list k, and its block.
-fn end_body(records: &mut [u32], texts: &mut [u8], k: Run, p: Printed) -> Printed
-    ensures { λ r. ⌜ PrintsIn records texts p r (endBody (k .0)) ⌝ }
+fn end_body(ops: &mut [u32], cells: &mut [u32; 8], k: Run)
+    ensures { λ _. ⌜ PlansAny ops cells (endBody (k .0)) ⌝ }
 {
-    let a = print_signal(records, texts, Signal::FinishGroup, p);
-    let b = end_run(records, texts, k, a);
-    print_signal(records, texts, Signal::FinishBlock, b)
+    plan_signal(ops, cells, Signal::FinishGroup);
+    end_run(ops, cells, k);
+    plan_signal(ops, cells, Signal::FinishBlock);
 }
 
 // Repeats the body of list k, and ends the branches.
-fn repeat_body(records: &mut [u32], texts: &mut [u8], k: Run, p: Printed) -> Printed
-    ensures { λ r. ⌜ PrintsIn records texts p r (repeatBody (k .0)) ⌝ }
+fn repeat_body(ops: &mut [u32], cells: &mut [u32; 8], k: Run)
+    ensures { λ _. ⌜ PlansAny ops cells (repeatBody (k .0)) ⌝ }
 {
-    let a = print_again(records, texts, k, p);
-    print_signal(records, texts, Signal::EndIf, a)
+    plan_again(ops, cells, k);
+    plan_signal(ops, cells, Signal::EndIf);
 }
 
 // Closes the bracket of list k.
-fn close_bracket(records: &mut [u32], texts: &mut [u8], bracket: u32, k: Run, p: Printed) -> Printed
+fn close_bracket(ops: &mut [u32], cells: &mut [u32; 8], bracket: u32, k: Run)
     requires { ⌜ bracket < wordCount ⌝ }
-    ensures { λ r. ⌜ PrintsIn records texts p r (closeBracket (wordAt bracket) (k .0)) ⌝ }
+    ensures { λ _. ⌜ PlansAny ops cells (closeBracket (wordAt bracket) (k .0)) ⌝ }
 {
-    let a = print_word(records, texts, bracket, p);
-    print_mark(records, texts, second_mark(k), a)
+    plan_word(ops, cells, bracket);
+    plan_mark(ops, cells, second_mark(k));
 }
 
 // Closes a list made by with_indent_eoi, behind its inner group.
 pub fn close_list(
-    records: &mut [u32],
-    texts: &mut [u8],
+    ops: &mut [u32],
+    cells: &mut [u32; 8],
     image: &[u8],
     index: &[u32],
     bracket: u32,
     k: Run,
     o: Outline,
-    p: Printed,
-) -> Printed
+)
     requires { ⌜ bracket < wordCount ⌝ }
     requires { ⌜ Lies (now image) (now index) (o .last) ⌝ }
-    ensures { λ r. ⌜ PrintsIn records texts p r (closeList (wordAt bracket) (k .0) (endingIn image index o)) ⌝ }
+    ensures { λ _. ⌜ PlansIn ops cells image index (closeList (wordAt bracket) (k .0) (endingIn image index o)) ⌝ }
 {
-    let a = print_signal(records, texts, Signal::FinishGroup, p);
-    let b = print_ending(records, texts, image, index, o, a);
-    let c = end_body(records, texts, k, b);
-    let d = print_signal(records, texts, Signal::Else, c);
-    let e = print_word(records, texts, SPACE, d);
-    let f = repeat_body(records, texts, k, e);
-    close_bracket(records, texts, bracket, k, f)
+    plan_signal(ops, cells, Signal::FinishGroup);
+    plan_ending(ops, cells, image, index, o);
+    end_body(ops, cells, k);
+    plan_signal(ops, cells, Signal::Else);
+    plan_word(ops, cells, SPACE);
+    repeat_body(ops, cells, k);
+    close_bracket(ops, cells, bracket, k);
 }
 
 // Closes a list of arguments.
 pub fn close_arguments(
-    records: &mut [u32],
-    texts: &mut [u8],
+    ops: &mut [u32],
+    cells: &mut [u32; 8],
     image: &[u8],
     index: &[u32],
     bracket: u32,
     k: Run,
     o: Outline,
-    p: Printed,
-) -> Printed
+)
     requires { ⌜ bracket < wordCount ⌝ }
     requires { ⌜ Lies (now image) (now index) (o .last) ⌝ }
-    ensures { λ r. ⌜ PrintsIn records texts p r (closeArguments (wordAt bracket) (k .0) (endingIn image index o)) ⌝ }
+    ensures { λ _. ⌜ PlansIn ops cells image index (closeArguments (wordAt bracket) (k .0) (endingIn image index o)) ⌝ }
 {
-    let a = end_body(records, texts, k, p);
-    let b = print_signal(records, texts, Signal::NewLine, a);
-    let c = print_signal(records, texts, Signal::Else, b);
-    let d = repeat_body(records, texts, k, c);
-    let e = print_ending(records, texts, image, index, o, d);
-    close_bracket(records, texts, bracket, k, e)
+    end_body(ops, cells, k);
+    plan_signal(ops, cells, Signal::NewLine);
+    plan_signal(ops, cells, Signal::Else);
+    repeat_body(ops, cells, k);
+    plan_ending(ops, cells, image, index, o);
+    close_bracket(ops, cells, bracket, k);
 }
 
 // Lists with a text of their own where they are empty: the elements of an array, the members of an object.
@@ -434,26 +364,19 @@ pub fn unasked(s: Span) -> Span
 }
 
 // Opens a local statement with no bind, or with several.
-pub fn open_binds(records: &mut [u32], texts: &mut [u8], p: Printed) -> Printed
-    ensures { λ r. ⌜ PrintsIn records texts p r (lit "local" ⨟ say indent ⨟ say newline) ⌝ }
+pub fn open_binds(ops: &mut [u32], cells: &mut [u32; 8])
+    ensures { λ _. ⌜ PlansAny ops cells (lit "local" ⨟ say indent ⨟ say newline) ⌝ }
 {
-    let a = print_word(records, texts, LOCAL, p);
-    let b = print_signal(records, texts, Signal::StartIndent, a);
-    print_signal(records, texts, Signal::NewLine, b)
+    plan_word(ops, cells, LOCAL);
+    plan_signal(ops, cells, Signal::StartIndent);
+    plan_signal(ops, cells, Signal::NewLine);
 }
 
 // Closes it.
-pub fn close_binds(
-    records: &mut [u32],
-    texts: &mut [u8],
-    image: &[u8],
-    index: &[u32],
-    o: Outline,
-    p: Printed,
-) -> Printed
+pub fn close_binds(ops: &mut [u32], cells: &mut [u32; 8], image: &[u8], index: &[u32], o: Outline)
     requires { ⌜ Lies (now image) (now index) (o .last) ⌝ }
-    ensures { λ r. ⌜ PrintsIn records texts p r (ending (endingIn image index o) ⨟ say outdent) ⌝ }
+    ensures { λ _. ⌜ PlansIn ops cells image index (ending (endingIn image index o) ⨟ say outdent) ⌝ }
 {
-    let a = print_ending(records, texts, image, index, o, p);
-    print_signal(records, texts, Signal::FinishIndent, a)
+    plan_ending(ops, cells, image, index, o);
+    plan_signal(ops, cells, Signal::FinishIndent);
 }

@@ -3,19 +3,19 @@ use super::rows::Entry;
 use super::rows::INDENT;
 use super::rows::NEW_LINE;
 use super::rows::TEXT;
-use super::words::COMMA;
-use super::words::print_word;
-use items::Printed;
 use items::Signal;
-use items::print_signal;
+use plan::plan_signal;
+use plan::plan_word;
+use plan::words::COMMA;
 ghost use mathlib.Core.Path.{_≡_};
 ghost use mathlib.Core.List.{List};
 ghost use Prim.Native.Nat.{ℕ, _<_};
 ghost use Rattle.items.specs.Item.{newline, Print, _⨟_, say, lit, when};
-ghost use Rattle.items.specs.Machine.{PrintsIn};
 ghost use Rattle.tree.specs.Tree.{Part};
+ghost use Rattle.plan.specs.Words.{wordCount};
+ghost use Rattle.plan.specs.Plans.{PlansAny};
 ghost use Rattle.printer.specs.Layout.{bare};
-ghost use Rattle.printer.specs.Rows.{whatOf, wordCount};
+ghost use Rattle.printer.specs.Rows.{whatOf};
 ghost use Rattle.printer.specs.Print.{what};
 
 // The signal of a piece.
@@ -32,24 +32,25 @@ fn signal_of(what: u32) -> Signal
 }
 
 // A piece that is a text or a signal.
-pub fn fixed(records: &mut [u32], texts: &mut [u8], x: Entry, p: Printed) -> Printed
+pub fn fixed(ops: &mut [u32], cells: &mut [u32; 8], x: Entry)
     requires { ⌜ x .what < 4 ⌝ }
     requires { ⌜ x .word < wordCount ⌝ }
-    ensures { λ r. ⌜ ((pr : ℕ → Print) (ps : List Part) → PrintsIn records texts p r (what pr ps (whatOf (x .what) (x .want) (x .word)))) ⌝ }
+    ensures { λ _. ⌜ ((pr : ℕ → Print) (ps : List Part) → PlansAny ops cells (what pr ps (whatOf (x .what) (x .want) (x .word)))) ⌝ }
 {
     if x.what == TEXT {
-        return print_word(records, texts, x.word, p);
+        plan_word(ops, cells, x.word);
+        return;
     }
-    print_signal(records, texts, signal_of(x.what), p)
+    plan_signal(ops, cells, signal_of(x.what));
 }
 
 // A comma and a newline, if each part is to end so.
-pub fn print_end(records: &mut [u32], texts: &mut [u8], ended: bool, p: Printed) -> Printed
-    ensures { λ r. ⌜ PrintsIn records texts p r (when ended (lit "," ⨟ say newline)) ⌝ }
+pub fn plan_end(ops: &mut [u32], cells: &mut [u32; 8], ended: bool)
+    ensures { λ _. ⌜ PlansAny ops cells (when ended (lit "," ⨟ say newline)) ⌝ }
 {
     if !ended {
-        return p;
+        return;
     }
-    let a = print_word(records, texts, COMMA, p);
-    print_signal(records, texts, Signal::NewLine, a)
+    plan_word(ops, cells, COMMA);
+    plan_signal(ops, cells, Signal::NewLine);
 }

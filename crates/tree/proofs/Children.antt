@@ -254,6 +254,7 @@ module _ {image index : List ℕ} (x : Indexed image index) where
         past = λ i h. rw (end-at i h) (end-past image i);
         inside = λ i h. rw (end-at i h) (end-in image i h);
         forward = λ i j h k. rw (start-at i (omega arith), start-at j k) (omega (arith, start-le image i j h));
+        few = indexed-accepted .few-elements;
         whole = omega (arith, start-at (countN image) (omega arith), indexed-accepted .sizes, indexed-accepted .long);
       }
 

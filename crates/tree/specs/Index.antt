@@ -94,9 +94,10 @@ walk (suc n) image index a b = cond (ltb a b) (partAt image index a ∷ walk n i
 unfoldable pub partsFrom : List ℕ → List ℕ → ℕ → ℕ → List Part
 partsFrom image index a b = walk (b - a) image index a b
 
--- The index has n elements and an entry for the end of the texts; ends lie behind their elements, and texts do not go back.
+-- The index has n elements, at most 4,096, and an entry for the end of the texts; ends lie behind their elements, and texts do not go back.
 pub record Table (image index : List ℕ) (n : ℕ) : Type 0 where
   pub size : n * 3 + 3 ≤ length index
+  pub few : n ≤ 4096
   pub past : (i : ℕ) → i < n → i < endAt index i
   pub inside : (i : ℕ) → i < n → endAt index i ≤ n
   pub forward : (i j : ℕ) → i ≤ j → j ≤ n → startAt index i ≤ startAt index j

@@ -1,7 +1,7 @@
 use borrow.Author.Needs.{needs}
 use mathlib.Core.Path.{ap, sym}
 use native.Mathlib.Omega.{arith}
-use Rattle.printer.specs.Rows.{words}
+use Rattle.plan.specs.Words.{words}
 use Rattle.printer.specs.Lists.{emptyText}
 use Rattle.printer.proofs.lists.empty_word.Statement.{statement}
 use Rattle.printer.proofs.lists.empty_word.Tie as tie

@@ -2,7 +2,8 @@ use borrow.Author.Needs.{needs}
 use mathlib.Core.Path.{refl}
 use mathlib.Core.List.{flatten}
 use Rattle.printer.specs.Layout.{rows}
-use Rattle.printer.specs.Rows.{words, wants, wanted, whatOf, allPieces}
+use Rattle.plan.specs.Words.{words}
+use Rattle.printer.specs.Rows.{wants, wanted, whatOf, allPieces}
 use Rattle.printer.proofs.Tables.{coded}
 use Rattle.printer.proofs.rows.entry_at.Statement.{statement}
 use Rattle.printer.proofs.rows.entry_at.Tie as tie

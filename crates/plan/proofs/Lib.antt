@@ -1,0 +1,9 @@
+-- Laws that belong to no one function. Those of a `pub mod` are cited by other crates.
+mod Cells
+pub mod Laws
+pub mod Loads
+pub mod Noted
+mod Playing
+mod Texts
+pub mod Whole
+mod Written

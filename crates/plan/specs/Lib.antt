@@ -1,0 +1,7 @@
+-- Operations, what they print, and the contracts of planners and writers.
+pub mod Words
+pub mod Ops
+pub mod Load
+pub mod Plans
+pub mod Plays
+pub mod Comments

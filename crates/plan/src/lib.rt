@@ -1,0 +1,237 @@
+// A plan of what is to be printed: operations, a number each, which planners add to a lent array. How far planning has come
+// stands in a few lent cells. `write` makes records and texts of a plan.
+pub mod notes;
+pub mod words;
+pub mod write;
+
+use comments::CommentLocation;
+use comments::is_silent;
+use items::Condition;
+use items::Signal;
+use items::signal_kind;
+use numbers::Element;
+use numbers::Mark;
+use numbers::Run;
+use tree::access::kind_at;
+use tree::access::text_at;
+ghost use mathlib.Core.Path.{_≡_};
+ghost use mathlib.Core.List.{List};
+ghost use Prim.Native.Nat.{ℕ, _<_};
+ghost use lib.ListN.{getD};
+ghost use Rattle.items.specs.Item.{say, says, lit, openRun, stopped, text, signal, conditionTest, mark, runEnd, again, ifTest};
+ghost use Rattle.comments.specs.Place.{place};
+ghost use Rattle.plan.specs.Words.{wordAt, wordOrNone, wordCount};
+ghost use Rattle.plan.specs.Ops.{Source, token, note, noteKind, expand, opItems, operandLimit};
+ghost use Rattle.plan.specs.Load.{Carried};
+ghost use Rattle.plan.specs.Plans.{held, handed, left, sourceIn, Plans, PlansIn, PlansAny, AddsAny};
+
+// The cells: status, the element at which planning stopped, operations, the number of the next list. Four are free.
+pub const STATUS: usize = 0;
+
+pub const STOP: usize = 1;
+
+pub const COUNT: usize = 2;
+
+const RUNS: usize = 3;
+
+// The status.
+pub const GOING: u32 = 0;
+
+pub const STOPPED: u32 = 1;
+
+const FULL: u32 = 2;
+
+// An operation is its kind, 5 bits, and its operand, 27 bits. Operands from LIMIT on have no room.
+pub const KINDS: u32 = 32;
+
+const LIMIT: u32 = 0x800_0000;
+
+// An array has at most so many operations.
+const MOST: u32 = 0xffff_ffff;
+
+// The kinds of operations; the others are the kinds of records.
+pub const TOKEN: u32 = 0;
+
+pub const WORD: u32 = 1;
+
+pub const IF_LINES: u32 = 18;
+
+pub const NOTE_ABOVE: u32 = 19;
+
+pub const NOTE_INLINE: u32 = 20;
+
+const NOTE_ENDING: u32 = 21;
+
+// A count as a place.
+fn wide(n: u32) -> usize
+    ensures { λ r. ⌜ r ≡ n ⌝ }
+{
+    n as usize
+}
+
+// Adds an operation, if planning goes on and there is room.
+fn add(ops: &mut [u32], cells: &mut [u32; 8], op: u32)
+    ensures { λ _. ⌜ AddsAny ops cells (λ s. says (opItems s op)) ⌝ }
+{
+    if cells[STATUS] != GOING {
+        return;
+    }
+    let n = cells[COUNT];
+    let at = wide(n);
+    if ops.len() <= at {
+        cells[STATUS] = FULL;
+        return;
+    }
+    if MOST <= n {
+        cells[STATUS] = FULL;
+        return;
+    }
+    ops[at] = op;
+    cells[COUNT] = n + 1;
+}
+
+// Adds an operation with an operand.
+fn add_numbered(ops: &mut [u32], cells: &mut [u32; 8], kind: u32, v: u64)
+    requires { ⌜ kind < 32 ⌝ }
+    ensures { λ _. ⌜ ((s : Source) → Carried s kind v → Plans s (says (expand s kind v)) (handed ops cells) (left ops cells)) ⌝ }
+{
+    if cells[STATUS] != GOING {
+        return;
+    }
+    if LIMIT as u64 <= v {
+        cells[STATUS] = FULL;
+        return;
+    }
+    let w = v as u32;
+    add(ops, cells, kind + KINDS * w);
+}
+
+// The kind of a comment at a place.
+fn note_kind(loc: CommentLocation) -> u32
+    ensures { λ r. ⌜ r ≡ noteKind (place loc) ⌝ }
+{
+    match loc {
+        CommentLocation::AboveItem => NOTE_ABOVE,
+        CommentLocation::ItemInline => NOTE_INLINE,
+        CommentLocation::EndOfItems => NOTE_ENDING,
+    }
+}
+
+// The number that the next list gets.
+pub fn next_run(cells: &[u32; 8]) -> Run
+    ensures { λ r. ⌜ r .0 ≡ getD (now (cells .entry)) 3 0 ⌝ }
+{
+    Run(cells[RUNS])
+}
+
+// Plans the text with a number.
+pub fn plan_word(ops: &mut [u32], cells: &mut [u32; 8], w: u32)
+    requires { ⌜ w < wordCount ⌝ }
+    ensures { λ _. ⌜ PlansAny ops cells (lit (wordAt w)) ⌝ }
+{
+    add_numbered(ops, cells, WORD, w as u64);
+}
+
+// Plans the text with a number, and nothing for number 0.
+pub fn plan_optional(ops: &mut [u32], cells: &mut [u32; 8], w: u32)
+    requires { ⌜ w < wordCount ⌝ }
+    ensures { λ _. ⌜ PlansAny ops cells (wordOrNone w) ⌝ }
+{
+    if w == 0 {
+        return;
+    }
+    plan_word(ops, cells, w);
+}
+
+// Plans the text of element t.
+pub fn plan_token(ops: &mut [u32], cells: &mut [u32; 8], t: u32)
+    requires { ⌜ t < operandLimit ⌝ }
+    ensures { λ _. ⌜ ((s : Source) → Plans s (say (text (token s t))) (handed ops cells) (left ops cells)) ⌝ }
+{
+    add_numbered(ops, cells, TOKEN, t as u64);
+}
+
+// Plans the comment of element t at a place, if it prints anything: each operation prints an item or more.
+pub fn plan_comment(
+    ops: &mut [u32],
+    cells: &mut [u32; 8],
+    image: &[u8],
+    index: &[u32],
+    t: u32,
+    loc: CommentLocation,
+)
+    requires { ⌜ t < operandLimit ⌝ }
+    ensures { λ _. ⌜ PlansIn ops cells image index (says (note (sourceIn image index) t (place loc))) ⌝ }
+{
+    let k = kind_at(index, t);
+    let s = text_at(image, index, t);
+    if is_silent(k, s) {
+        return;
+    }
+    add_numbered(ops, cells, note_kind(loc), t as u64);
+}
+
+// Plans an item without operands.
+pub fn plan_signal(ops: &mut [u32], cells: &mut [u32; 8], x: Signal)
+    ensures { λ _. ⌜ PlansAny ops cells (say (signal x)) ⌝ }
+{
+    add_numbered(ops, cells, signal_kind(x), 0);
+}
+
+// Plans a line mark.
+pub fn plan_mark(ops: &mut [u32], cells: &mut [u32; 8], m: Mark)
+    ensures { λ _. ⌜ PlansAny ops cells (say (mark (m .0))) ⌝ }
+{
+    add_numbered(ops, cells, items::MARK, m.0);
+}
+
+// Begins the run of the next list.
+pub fn open_run(ops: &mut [u32], cells: &mut [u32; 8])
+    ensures { λ _. ⌜ PlansAny ops cells openRun ⌝ }
+{
+    if cells[STATUS] != GOING {
+        return;
+    }
+    let k = cells[RUNS];
+    if LIMIT <= k {
+        cells[STATUS] = FULL;
+        return;
+    }
+    add(ops, cells, items::RUN + KINDS * k);
+    cells[RUNS] = k + 1;
+}
+
+// Ends a run.
+pub fn end_run(ops: &mut [u32], cells: &mut [u32; 8], k: Run)
+    ensures { λ _. ⌜ PlansAny ops cells (say (runEnd (k .0))) ⌝ }
+{
+    add_numbered(ops, cells, items::RUN_END, k.0 as u64);
+}
+
+// Plans what a run holds once more.
+pub fn plan_again(ops: &mut [u32], cells: &mut [u32; 8], k: Run)
+    ensures { λ _. ⌜ PlansAny ops cells (say (again (k .0))) ⌝ }
+{
+    add_numbered(ops, cells, items::AGAIN, k.0 as u64);
+}
+
+// Begins the first branch of a condition.
+pub fn plan_if(ops: &mut [u32], cells: &mut [u32; 8], t: Condition)
+    ensures { λ _. ⌜ PlansAny ops cells (say (ifTest (conditionTest t))) ⌝ }
+{
+    match t {
+        Condition::Always => add_numbered(ops, cells, items::IF, 0),
+        Condition::Lines(m) => add_numbered(ops, cells, IF_LINES, m.0),
+    }
+}
+
+// Stops at an element, where planning still goes on.
+pub fn stop_at(cells: &mut [u32; 8], e: Element)
+    ensures { λ _. ⌜ ((s : Source) (ops : List ℕ) → Plans s (stopped (e .0)) (held ops (now (cells .entry))) (held ops (now (cells .exit)))) ⌝ }
+{
+    if cells[STATUS] != GOING {
+        return;
+    }
+    cells[STOP] = e.0;
+    cells[STATUS] = STOPPED;
+}

@@ -1,0 +1,64 @@
+use Prim.Native.Nat.{ℕ}
+use borrow.Author.Needs.{needs}
+use Rattle.printer.proofs.Rowing.{piece-unasked, piece-asked, piece-each, piece-part}
+use Rattle.plan.proofs.Laws.{by, idle}
+use mathlib.Core.Path.{sym, ap, _∙_}
+use native.Mathlib.Omega.{arith}
+use Rattle.printer.specs.Reads.{numberOr}
+use Rattle.printer.proofs.Looking.{part-has}
+use Rattle.printer.proofs.printers.piece.Reads as piece
+use Rattle.printer.proofs.printers.+args+binds+body+child+comp+each+expr+items+kids+list+local+lone+node+one+part+piece+row+specs+values.Lts-piece as lts
+use Rattle.printer.proofs.printers.+args+binds+body+child+comp+each+expr+items+kids+list+local+lone+node+one+part+piece+row+specs+values.Proof.Cycle.{piece-at, piece-claims}
+
+returns : (t : ℕ) → lts.Need-returns (piece-claims t) (piece-at t) piece.Post
+returns t c = by (piece-unasked _ _ _ _ _ (c .before .before .entry-at .ensures) (c .before .is-asked .ensures) (c .if1 .taken)) idle
+
+returns-2 : (t : ℕ) → lts.Need-returns-2 (piece-claims t) (piece-at t) piece.Post
+returns-2 t c =
+    let c1 = c .before .before in
+    let i1 = c1 .before .before .before .before .before in
+    by (piece-asked _ _ _ _ _ (i1 .before .before .entry-at .ensures) (i1 .before .is-asked .ensures) (i1 .if1 .left)) (c1 .fixed .ensures _ _ _)
+
+returns-3 : (t : ℕ) → lts.Need-returns-3 (piece-claims t) (piece-at t) piece.Post
+returns-3 t c =
+    let c1 = c .before .before in
+    let i3 = c1 .before .before .before in
+    let i1 = i3 .before .before .before .before .before in
+    by (piece-asked _ _ _ _ _ (i1 .before .before .entry-at .ensures) (i1 .before .is-asked .ensures) (i1 .if1 .left) ∙ piece-each _ _ _ _ _ (i3 .if3 .taken)) (c1 .each .ensures)
+
+returns-4 : (t : ℕ) → lts.Need-returns-4 (piece-claims t) (piece-at t) piece.Post
+returns-4 t c =
+    let c1 = c .before .before in
+    let f = c1 .before .before .before in
+    let i3 = f .before in
+    let i2 = i3 .before .before .before in
+    let i1 = i2 .before .before in
+    let x = i1 .before .before .entry-at .ensures in
+    by (piece-asked _ _ _ _ _ x (i1 .before .is-asked .ensures) (i1 .if1 .left) ∙ piece-part _ _ _ (x .settles) (i2 .if2 .left) (i3 .if3 .left) ∙ ap (numberOr _ _) (sym (f .part-of .ensures))) (c1 .part .ensures)
+
+part-asked : (t : ℕ) → lts.Need-part-requires (piece-claims t) (piece-at t) piece.Post
+part-asked t c κs =
+    let f = c .before .before in
+    let x = f .before .before .before .before .before .before .before .before in
+    let s = x .before .before .before .before in
+    (omega (arith, s .pre .0), (s .pre .1 .0, (part-has _ _ (f .part-of .ensures), x .entry-at .ensures .word)))
+
+pub piece-closed : {M : Type 1} (t : ℕ) → lts.Closed (piece-claims t) (piece-at t) piece.Post M
+piece-closed t =
+    lts.spec
+    (piece-claims t)
+    (piece-at t)
+    piece.Post
+    (λ c κs. search needs)  -- entry-at-requires
+    (λ c κs. search needs)  -- is-asked-requires
+    (returns t)  -- returns
+    (λ c κs. search needs)  -- fixed-requires
+    (λ c. returns-2 t c .sameOps)  -- same-length
+    (returns-2 t)  -- returns-2
+    (λ c κs. search needs)  -- each-requires
+    (λ c. returns-3 t c .sameOps)  -- same-length-2
+    (returns-3 t)  -- returns-3
+    (λ c κs. search needs)  -- part-of-requires
+    (part-asked t)  -- part-requires
+    (λ c. returns-4 t c .sameOps)  -- same-length-3
+    (returns-4 t)  -- returns-4
