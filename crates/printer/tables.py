@@ -1,22 +1,23 @@
 #!/usr/bin/env python3
-"""Writes the tables of crate `printer` from its readable list of rows.
+"""Writes the tables of crates `plan` and `printer` from the readable list of rows.
 
 The list is `rows` in specs/Layout.antt: for each kind of node with a fixed layout, the pieces that it prints. From it follow the
-numbers of texts, wanted parts and pieces (specs/Rows.antt) and the code's tables over them (src/rows.rt, src/words.rt). A text
-that the code prints by itself has a constant in src/words.rt, and stands in FIXED below at the constant's number.
+numbers of wanted parts and pieces (specs/Rows.antt) and the code's tables over them (src/rows.rt), and the numbers of texts, which
+the writer of a plan knows (crate `plan`: specs/Words.antt, src/words.rt). A text that the code prints by itself has a constant in
+src/words.rt, and stands in FIXED below at the constant's number.
 
-    crates/printer/tables.py            writes the three files
+    crates/printer/tables.py            writes the four files
     crates/printer/tables.py --check    names the files that would change, and changes none
 
-After it come `rt fmt` and `rt check printer`, which proves that the tables are those of the definition.
+After it come `rt fmt` and `rt check printer`, which proves that the tables are those of the definitions.
 """
 import re
 import sys
 from pathlib import Path
 
 HERE = Path(__file__).resolve().parent
-LAYOUT, ROWS, CODE, WORDS = (HERE / path for path in ("specs/Layout.antt", "specs/Rows.antt", "src/rows.rt", "src/words.rt"))
-CLASS, KIND = (HERE.parent / path for path in ("tree/src/class.rt", "numbers/src/kind.rt"))
+LAYOUT, ROWS, CODE = (HERE / path for path in ("specs/Layout.antt", "specs/Rows.antt", "src/rows.rt"))
+TEXTS, WORDS, CLASS, KIND = (HERE.parent / path for path in ("plan/specs/Words.antt", "plan/src/words.rt", "tree/src/class.rt", "numbers/src/kind.rt"))
 
 # The texts of the constants of src/words.rt; number 0 is no text.
 FIXED = ["", ",", " ", "[ ]", "[", "]", "{ }", "{", "}", "(", ")", "local", "local ", ";", "/*missing ExprBase*/", "/*missing Expr*/"]
@@ -146,14 +147,19 @@ def replaced(text, pattern, new):
     return text[: m.start(1)] + new + text[m.end(1):]
 
 
+def counted(text, name, members):
+    return replaced(text, rf"^{name}Count = (\d+)$", str(len(members)))
+
+
 def rows_definition(tables, text):
-    words = [f'"{w}"' for w in tables.words]
     wants = [f"{'secondOf' if place else 'firstOf'} Class.{c}" for c, place in tables.wants]
-    text = replaced(text, r"^words =(.*?)\n\n", definition_lines(words))
     text = replaced(text, r"^wants =(.*?)\n\n", definition_lines(wants))
-    for name, count in (("word", words), ("want", wants), ("piece", tables.pieces)):
-        text = replaced(text, rf"^{name}Count = (\d+)$", str(len(count)))
-    return text
+    return counted(counted(text, "want", wants), "piece", tables.pieces)
+
+
+def words_definition(tables, text):
+    words = [f'"{w}"' for w in tables.words]
+    return counted(replaced(text, r"^words =(.*?)\n\n", definition_lines(words)), "word", words)
 
 
 def array(text, name, numbers):
@@ -175,13 +181,13 @@ def rows_code(tables, text):
 
 def words_code(tables, text):
     starts = [sum(map(len, tables.words[:i])) for i in range(len(tables.words) + 1)]
-    text = array(text, "STARTS", starts)
+    text = replaced(array(text, "STARTS", starts), r"const WORDS: u32 = (\d+);", str(len(tables.words)))
     return replaced(text, r'let all: &\[u8\] =\s*b"(.*?)";', "".join(tables.words))
 
 
 def main():
     tables, check, status = Tables(LAYOUT.read_text()), "--check" in sys.argv, 0
-    for path, made in ((ROWS, rows_definition), (CODE, rows_code), (WORDS, words_code)):
+    for path, made in ((ROWS, rows_definition), (CODE, rows_code), (TEXTS, words_definition), (WORDS, words_code)):
         old = path.read_text()
         new = made(tables, old)
         if "".join(old.split()) == "".join(new.split()):

@@ -21,11 +21,12 @@ use Rattle.tree.specs.Class.{is, nth, first, plusOf}
 use Rattle.tree.specs.declared.class.Class.{Class}
 use Rattle.tree.specs.declared.class.Class.the-variants as Class
 use Rattle.children.specs.Reading
-use Rattle.children.specs.Comments.{comments}
+use Rattle.plan.specs.Comments.{comments}
 use Rattle.printer.specs.Layout.{What, txt, bare, part, opt, each, plus, Piece, asked, layout}
 use Rattle.printer.specs.Combine
 use Rattle.printer.specs.Print
-use Rattle.formatter.proofs.Numbers.{numberIn, signal-sign}
+use Rattle.plan.specs.Load.{numberIn}
+use Rattle.formatter.proofs.Numbers.{signal-sign}
 use Rattle.formatter.specs.PutBack.{Body, State, bodyOf, emit, opened, closed, put, puts, nothingYet, putBack}
 use Rattle.formatter.specs.Plain
 

@@ -23,7 +23,7 @@ use Rattle.tree.specs.declared.class.Class.the-variants as Class
 use Rattle.tree.specs.Class.{is, kinds, oneOf, ofKind, nth, first}
 use Rattle.children.specs.Reading
 use Rattle.children.specs.Reading.{Child, Ending, Around}
-use Rattle.children.specs.Comments.{comments}
+use Rattle.plan.specs.Comments.{comments}
 use Rattle.printer.specs.Combine
 use Rattle.printer.specs.Layout.{What, txt, bare, part, opt, each, plus, Piece, asked, layout, rows}
 use Rattle.printer.specs.Print

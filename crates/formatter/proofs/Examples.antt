@@ -20,7 +20,7 @@ use Rattle.tree.specs.Tree.{le16, le32, countN, countB, textsOf, elements, elem
 use Rattle.tree.specs.Class.{kinds, oneOf, nthOf}
 use Rattle.tree.specs.Refusal.{wrongLength, outOfLimits, firstWhere, unknownKind, misplaced, misplacedAfter, firstMisplaced, nodeWithText, wrongSizes, notUtf8, stringBlock, misformed, firstNameless, tests, firstRefusal, refusal}
 use Rattle.children.specs.Reading.{between, pass, step, behind, upTo, newlinesBefore, newlinesBack, strict, triviaBefore, triviaAfter}
-use Rattle.children.specs.Comments.{comments}
+use Rattle.plan.specs.Comments.{comments}
 use Rattle.printer.specs.Layout.{rows, pick}
 use Rattle.printer.specs.Combine.{comma, testOf, bracketed}
 use Rattle.printer.specs.Print.{shared, indented, partOr, what, row, withComments, children, list, values, valuesOf, expression, element, prints, sourceOf, source, sourceFile}

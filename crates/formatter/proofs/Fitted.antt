@@ -12,7 +12,7 @@ use Rattle.items.proofs.Lengths.{lines-short}
 use Rattle.tree.specs.Tree.{treeOf}
 use Rattle.tree.proofs.Accepted.{Accepted}
 use Rattle.printer.specs.Print.{sourceFile}
-use Rattle.formatter.proofs.Numbers.{numberIn}
+use Rattle.plan.specs.Load.{numberIn}
 use Rattle.formatter.proofs.Agree.{Below, numbers-small}
 use Rattle.formatter.proofs.Counted.{records-bound, texts-bound}
 
@@ -34,7 +34,7 @@ all-short (_▹_ {x} {xs} b bs) h k =
     let e = length-append (bytesOf x) (bytes xs) in
     short x (omega arith) (omega arith) ▹ all-short bs h (omega arith)
 
-one-run : (r : Role) → isRun r ≤ 1
+pub one-run : (r : Role) → isRun r ≤ 1
 one-run stays = omega arith
 one-run marks = omega arith
 one-run (opens k) = omega arith
@@ -48,7 +48,7 @@ one-mark (opens k) = omega arith
 one-mark (closes k) = omega arith
 one-mark (repeats k) = omega arith
 
-sum-le : (f : Role → ℕ) → ((r : Role) → f r ≤ 1) → (xs : List Item) → sum (λ x. f (role x)) xs ≤ length xs
+pub sum-le : (f : Role → ℕ) → ((r : Role) → f r ≤ 1) → (xs : List Item) → sum (λ x. f (role x)) xs ≤ length xs
 unfolding sum
 sum-le f h [] = omega arith
 sum-le f h (x ∷ xs) = omega (arith, h (role x), sum-le f h xs)

@@ -9,5 +9,6 @@ mod Examples
 mod Fitted
 mod Numbers
 pub mod Responses
+mod Room
 mod Tests
 mod Weights

@@ -1,22 +1,11 @@
--- The numbers that items name, and signals, which have neither number nor text.
+-- Signals have neither number nor text.
 use mathlib.Core.Path.{_≡_, refl}
 use mathlib.Core.List.{[]}
-use Prim.Native.Nat.{ℕ}
-use Rattle.items.specs.Item.{always, lines, Item, signal, text, mark, run, runEnd, again, ifTest}
+use Rattle.items.specs.Item.{Item, signal}
 use Rattle.items.specs.Role.{stays, role}
 use Rattle.items.specs.Records.{bytesOf}
 use Rattle.items.specs.declared.Signal.{Signal}
-
--- the mark, run or start mark that an item names; 0 where it names none
-abbrev pub numberIn : Item → ℕ
-numberIn (text s) = 0
-numberIn (signal s) = 0
-numberIn (mark n) = n
-numberIn (run n) = n
-numberIn (runEnd n) = n
-numberIn (again n) = n
-numberIn (ifTest always) = 0
-numberIn (ifTest (lines n)) = n
+use Rattle.plan.specs.Load.{numberIn}
 
 -- An item that stays when bodies are put back, and has neither number nor text.
 pub record Sign (x : Item) : Type 0 where

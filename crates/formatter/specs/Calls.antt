@@ -1,18 +1,33 @@
 -- What the entries answer for what they are lent, and what the functions below them answer.
 use mathlib.Core.Path.{_≡_}
-use mathlib.Core.Bool.{cond}
+use mathlib.Core.Bool.{Bool, true, false, cond, _&&_}
 use mathlib.Core.Option.{Option, none, some}
 use mathlib.Core.List.{List}
-use Prim.Native.Nat.{ℕ, _*_}
+use Prim.Native.Nat.{ℕ, _+_, _*_, _<_, _≤_}
 use lib.Dec.{ltb}
-use Rattle.items.specs.Item.{Out, stop, ok}
-use Rattle.items.specs.Records.{Counts, countsOf, recordSize}
-use Rattle.items.specs.declared.Printed.{Printed}
-use Rattle.items.specs.declared.Printed.the-variants.{Done, Stopped}
-use Rattle.tree.specs.Index.{Indexed}
-use Rattle.formatter.specs.Answer.{verdict, withRoom, Answer, refused, done, answerOf, answer, recordsAfter, textsAfter, listingAfter}
-use Rattle.formatter.specs.Answered.{Answered}
+use lib.ListN.{length}
 use Rattle.text.specs.Lent.{Lent}
+use Rattle.numbers.specs.declared.Element.{Element}
+use Rattle.numbers.specs.declared.refusal.Reason.the-variants.{RecordsTooShort, TextsTooShort, ListingTooShort}
+use Rattle.items.specs.Item.{Item, stop, ok}
+use Rattle.items.specs.Role.{runsOf}
+use Rattle.items.specs.Records.{words, bytes, Counts, countsOf, recordSize}
+use Rattle.items.specs.Machine.{store}
+use Rattle.tree.specs.Tree.{countN, countB, treeOf}
+use Rattle.tree.specs.Refusal.{refusal}
+use Rattle.tree.specs.Index.{indexSize}
+use Rattle.plan.specs.Ops.{sourceAt, decoded}
+use Rattle.printer.specs.Print.{sourceFile}
+use Rattle.formatter.specs.declared.ListAnswer.{ListAnswer}
+use Rattle.formatter.specs.declared.serve.Room.{Room}
+use Rattle.formatter.specs.declared.serve.Room.the-variants.{Enough, Short}
+use Rattle.formatter.specs.declared.serve.Outlook.{Outlook}
+use Rattle.formatter.specs.declared.serve.Outlook.the-variants.{Stops, Prints}
+use Rattle.formatter.specs.Answer.{Answer, done, answer, recordsAfter, textsAfter, listingAfter}
+use Rattle.formatter.specs.Answered.{Answered}
+use Rattle.formatter.specs.Reply.{replyTo}
+
+-- ---- the entries
 
 -- what a call is answered that is lent an image, the records and the texts, and a listing buffer where a listing is asked for
 abbrev pub answerIn : Lent → Lent → Lent → Option (List ℕ) → Answer
@@ -37,16 +52,76 @@ listed listing = some (listing .entry .now)
 abbrev pub AnsweredIn : Lent → Lent → Lent → Answer → Type 0
 AnsweredIn image records texts a = (c : Counts) (n : Option ℕ) → a ≡ done c n → Answered (image .entry .now) (records .exit .now) (texts .exit .now) c
 
--- An answer is what the tests 1 to 12 say where buffers have so many words and bytes, and the table is the index of an image that passes.
-pub record Judged (image : List ℕ) (words room : ℕ) (table : List ℕ) (a : Answer) : Type 0 where
-  pub answers : a ≡ answerOf none (withRoom words room (verdict image))
-  pub indexed : (c : Counts) → a ≡ done c none → Indexed image table
+-- ---- both at once
 
--- what counting a printing answers: the element at which it stops, or the counts of its items; it is never full
-unfoldable pub tally : Out → Printed
-tally (stop xs e) = Stopped (record { 0 = e })
-tally (ok xs k) = Done (countsOf xs)
+-- a listing is asked for, or none
+abbrev pub asked : Bool → List ℕ → Option (List ℕ)
+asked true ls = some ls
+asked false ls = none
 
--- 11 and 12 by the counts
-abbrev pub roomFor : Counts → ℕ → ℕ → Answer
-roomFor c words room = cond (ltb words (recordSize * c .records)) (refused 11 0) (cond (ltb room (c .texts)) (refused 12 0) (done c none))
+-- An answer and the buffers that come back are those of the definition.
+pub record Served (image rs ts ls : List ℕ) (listed : Bool) (rs′ ts′ ls′ : List ℕ) (a : Answer) : Type 0 where
+  pub answers : a ≡ answer image rs ts (asked listed ls)
+  pub records : rs′ ≡ recordsAfter image rs ts (asked listed ls)
+  pub texts : ts′ ≡ textsAfter image rs ts (asked listed ls)
+  pub listing : ls′ ≡ cond listed (listingAfter image rs ts ls) ls
+
+-- the same of what is lent
+abbrev pub ServedIn : Lent → Lent → Lent → Lent → Bool → ListAnswer → Type 0
+ServedIn image records texts listing listed r =
+    Served (image .entry .now) (records .entry .now) (texts .entry .now) (listing .entry .now) listed (records .exit .now) (texts .exit .now) (listing .exit .now) (replyTo listed r)
+
+-- ---- plans
+
+-- An image that passed the tests 1 to 9 and has fewer records than n at most.
+pub record Sized (image : List ℕ) (n : ℕ) : Type 0 where
+  pub passed : refusal image ≡ none
+  pub few : 24 * countN image + 4 * countB image < n
+
+-- A table has room for the index of an image that passed, and an array for its plan.
+pub record Ready (image table ops : List ℕ) : Type 0 where
+  pub passed : refusal image ≡ none
+  pub tabled : indexSize image ≤ length table
+  pub planned : 24 * countN image + 4 * countB image < length ops
+
+-- the items of the first n operations
+abbrev pub plannedAt : List ℕ → List ℕ → List ℕ → ℕ → List Item
+plannedAt image index ops n = decoded (sourceAt image index) ops n
+
+abbrev pub plannedIn : Lent → Lent → Lent → ℕ → List Item
+plannedIn image index ops n = plannedAt (image .entry .now) (index .entry .now) (ops .entry .now) n
+
+-- The first n operations of a plan print what an image that passed prints.
+pub record Whole (image index ops : List ℕ) (n : ℕ) : Type 0 where
+  pub passed : refusal image ≡ none
+  pub within : n ≤ length ops
+  pub prints : sourceFile (treeOf image) 0 ≡ ok (plannedAt image index ops n) (runsOf (plannedAt image index ops n))
+
+-- The printing of an image that passed stops at element e.
+pub record Halts (image : List ℕ) (e : ℕ) : Type 0 where
+  pub passed : refusal image ≡ none
+  pub items : List Item
+  pub stops : sourceFile (treeOf image) 0 ≡ stop items e
+
+-- What planning comes to.
+pub record Foresees (image index ops : List ℕ) (o : Outlook) : Type 0 where
+  pub stops : (e : Element) → o ≡ Stops e → Halts image (e .0)
+  pub prints : (n : ℕ) → o ≡ Prints n → Whole image index ops n
+
+-- Items written from the start of two buffers, as far as there is room, and counted.
+pub record Wrote (xs : List Item) (rs ts rs′ ts′ : List ℕ) (c : Counts) : Type 0 where
+  pub records : rs′ ≡ store rs 0 (words 0 xs)
+  pub texts : ts′ ≡ store ts 0 (bytes xs)
+  pub counts : c ≡ countsOf xs
+
+-- the same of what is lent
+abbrev pub WroteIn : Lent → Lent → Counts → List Item → Type 0
+WroteIn records texts c xs = Wrote xs (records .entry .now) (texts .entry .now) (records .exit .now) (texts .exit .now) c
+
+-- 11, 12 and 13 by the counts and the bytes of the listing, for buffers of so many words and bytes
+unfoldable pub shortage : Counts → ℕ → ℕ → ℕ → ℕ → Bool → Room
+shortage c n words room size listed =
+    cond (ltb words (recordSize * c .records)) (Short RecordsTooShort)
+    (cond (ltb room (c .texts)) (Short TextsTooShort)
+    (cond (listed && ltb size n) (Short ListingTooShort)
+    Enough))

@@ -13,7 +13,7 @@ use Rattle.tree.specs.declared.class.Class.{Class}
 use Rattle.tree.specs.declared.class.Class.the-variants as Class
 use Rattle.tree.specs.Class.{is, nth, first, plusOf}
 use Rattle.children.specs.Reading.{Child, Ending, Reading, foreign, read, between, enclosed, compMembers, compSpecs, more, anyManyLines, isEmpty, Around, foreignAt, trivia, triviaBefore, triviaAfter}
-use Rattle.children.specs.Comments.{comments}
+use Rattle.plan.specs.Comments.{comments}
 use Rattle.printer.specs.Layout.{What, txt, bare, part, opt, each, plus, Piece, asked, layout}
 use Rattle.printer.specs.Combine.{newlineIf, either, onlyIf, grouped, comma, separator, ending, testOf, bracketed}
 

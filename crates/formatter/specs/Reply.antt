@@ -1,4 +1,5 @@
 -- What the code answers, in document 01's numbers.
+use mathlib.Core.Bool.{Bool, cond}
 use mathlib.Core.Option.{none, some}
 use Rattle.numbers.specs.declared.refusal.Refusal.{Refusal}
 use Rattle.numbers.specs.Refusal.{numberOf}
@@ -23,3 +24,8 @@ reply (Printed c) = done c none
 abbrev pub replyListed : ListAnswer → spec.Answer
 replyListed (Unlisted r) = refusedFor r
 replyListed (Listed c n) = done c (some n)
+
+-- what is answered where a listing was asked for or none
+abbrev pub replyTo : Bool → ListAnswer → spec.Answer
+replyTo listed (Unlisted r) = refusedFor r
+replyTo listed (Listed c n) = done c (cond listed (some n) none)

@@ -1,4 +1,4 @@
--- Items written one list after another, and a printing by its items.
+-- Items written one list after another.
 use mathlib.Core.Path.{_≡_, refl}
 use mathlib.Core.List.{List, [], _∷_, _++_}
 use Prim.Native.Nat.{ℕ, _+_, suc}
@@ -7,9 +7,6 @@ use Rattle.text.specs.Basic.{sum, All, ∅, _▹_}
 use Rattle.text.proofs.Lists.{sum-append}
 use Rattle.items.specs.Item.{Item, run, ok, Print, _⨟_, none, say, says, runAt}
 use Rattle.items.specs.Role.{role, isRun, runsOf}
-use Rattle.items.specs.Machine.{Held, held, Prints, noCounts, seen}
-use Rattle.items.specs.Machine.{run as runs}
-use Rattle.items.specs.declared.Printed.the-variants.{Done}
 use Rattle.comments.specs.Comments.{Location, comment}
 use Rattle.comments.proofs.Every.{comment-all}
 use Rattle.plan.specs.Plays.{plays}
@@ -58,8 +55,3 @@ still-sum (_▹_ {x} h r) = omega (arith, h, still-sum r)
 -- a comment has no runs
 pub comment-still : (k : ℕ) (s : List ℕ) (loc : Location) → runsOf (comment k s loc) ≡ 0
 comment-still k s loc = still-sum (comment-all (λ x. isRun (role x) ≡ 0) refl refl (λ s. refl) k s loc)
-
--- whoever prints what a printing gives from the first list on has printed it
-pub played : (q : Print) (xs : List Item) (k : ℕ) {rs ts : List ℕ} {a : Held} → q 0 ≡ ok xs k → k ≡ runsOf xs → Prints (plays xs) (held rs ts (Done noCounts)) a → Prints q (held rs ts (Done noCounts)) a
-unfolding plays runs seen
-played q xs k e f h = let g : k ≡ 0 + runsOf xs = omega (arith, f) in record { ran = rw (e, g) (h .ran); sameRecords = h .sameRecords; sameTexts = h .sameTexts }

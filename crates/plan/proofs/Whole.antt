@@ -1,4 +1,4 @@
--- A whole printing by a plan: stops are known from the cells, and writing the plan is printing.
+-- A whole printing by a plan: all of it is planned, and stops are known from the cells.
 use mathlib.Core.Path.{_≡_, refl, sym, ap, _∙_}
 use mathlib.Core.Logic.{⊎-elim}
 use mathlib.Core.Bool.{Bool, true, false}
@@ -12,15 +12,10 @@ use Rattle.text.specs.Basic.{sum}
 use Rattle.items.specs.Item.{Item, Out, stop, ok, Print}
 use Rattle.items.proofs.Fits.{itemsOf}
 use Rattle.items.specs.Role.{runsOf}
-use Rattle.items.specs.declared.Printed.the-variants.{Done}
-use Rattle.items.specs.Machine.{noCounts, Prints}
-use Rattle.items.specs.Machine.{Held as Buffers, held as lent}
 use Rattle.plan.specs.Ops.{Source, decoded}
 use Rattle.plan.specs.Load.{load}
 use Rattle.plan.proofs.Loads.{length-load}
 use Rattle.plan.specs.Plans.{Planned, halted, full, planned, joined, planning, Held, held, status, stoppedAt, count, nextRun, told, seen, noCells, itemsIn, Tidy, Kept, Plans}
-use Rattle.plan.specs.Plays.{plays}
-use Rattle.plan.proofs.Playing.{played}
 
 -- which of the three it is, the items, and the number
 abbrev tag : Planned → ℕ
@@ -60,20 +55,21 @@ module _ (s : Source) (q : Print) (ops : List ℕ) (a : Held) (h : Plans s q (he
   pub whole : seen s a ≡ joined [] (q 0)
   whole = ⊎-elim (λ e. e ∙ start) (λ e. absurd (over (e .1))) (h .ran .got)
 
-  -- where it stops
-  pub stops-at : {xs : List Item} {n : ℕ} → q 0 ≡ stop xs n → (status a ≡ 1) × (stoppedAt a ≡ n)
+  -- a plan that does not go on stopped
+  pub stopped-there : (status a ≡ 0 → ⊥) → (xs : List Item) × (q 0 ≡ stop xs (stoppedAt a))
   unfolding seen joined
-  stops-at {xs} {n} e = go (eqb (length (a .cells)) 8) (eqb (status a) 0) (eqb (status a) 1) refl (whole ∙ ap (joined []) e)
+  stopped-there g = go (eqb (length (a .cells)) 8) (eqb (status a) 0) refl (eqb (status a) 1) (q 0) whole
     where
-      go : (l b c : Bool) → eqb (status a) 1 ≡ c → told l b c (planned (decoded s (a .ops) (count a)) (nextRun a)) (halted (decoded s (a .ops) (count a)) (stoppedAt a)) ≡ halted xs n
-          → (status a ≡ 1) × (stoppedAt a ≡ n)
-      go true true c f d = let z : _≡_ {A = ℕ} 0 1 = ap tag d in absurd (omega arith)
-      go true false true f d = (eqb-true (status a) 1 f, ap number d)
-      go true false false f d = let z : _≡_ {A = ℕ} 2 1 = ap tag d in absurd (omega arith)
-      go false b c f d = let z : _≡_ {A = ℕ} 2 1 = ap tag d in absurd (omega arith)
+      go : (l b : Bool) → eqb (status a) 0 ≡ b → (c : Bool) (o : Out) → told l b c (planned (decoded s (a .ops) (count a)) (nextRun a)) (halted (decoded s (a .ops) (count a)) (stoppedAt a)) ≡ joined [] o
+          → (xs : List Item) × (o ≡ stop xs (stoppedAt a))
+      go true true f c o d = absurd (g (eqb-true (status a) 0 f))
+      go true false f true (stop xs e) d = let n : stoppedAt a ≡ e = ap number d in (xs, rw n refl)
+      go true false f true (ok xs k) d = let z : _≡_ {A = ℕ} 1 0 = ap tag d in absurd (omega arith)
+      go true false f false o d = absurd (joined-tag o (sym (ap tag d)))
+      go false b f c o d = absurd (joined-tag o (sym (ap tag d)))
 
   -- a plan that goes on holds all of the printing's items, in no more operations than the array has
-  planned-all : status a ≡ 0 → (q 0 ≡ ok (decoded s (a .ops) (count a)) (nextRun a)) × ((nextRun a ≡ runsOf (decoded s (a .ops) (count a))) × (count a ≤ length (decoded s (a .ops) (count a))))
+  pub planned-all : status a ≡ 0 → (q 0 ≡ ok (decoded s (a .ops) (count a)) (nextRun a)) × ((nextRun a ≡ runsOf (decoded s (a .ops) (count a))) × (count a ≤ length (decoded s (a .ops) (count a))))
   unfolding seen joined
   planned-all g = go (eqb (length (a .cells)) 8) (q 0) whole (kept .is)
     where
@@ -97,7 +93,3 @@ module _ (s : Source) (q : Print) (ops : List ℕ) (a : Held) (h : Plans s q (he
       let xs = decoded s (a .ops) (count a) in
       let i : itemsOf (q 0) ≡ xs = ap itemsOf e in
       omega (arith, length-load xs, rw i at room)
-
-  -- whoever writes the plan has printed
-  pub written : status a ≡ 0 → {rs ts : List ℕ} {b : Buffers} → Prints (plays (decoded s (a .ops) (count a))) (lent rs ts (Done noCounts)) b → Prints q (lent rs ts (Done noCounts)) b
-  written g p = let (e, (f, l)) = planned-all g in played q _ _ e f p

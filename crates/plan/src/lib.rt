@@ -17,6 +17,7 @@ use tree::access::text_at;
 ghost use mathlib.Core.Path.{_≡_};
 ghost use mathlib.Core.List.{List};
 ghost use Prim.Native.Nat.{ℕ, _<_};
+ghost use lib.Dec.{eqb};
 ghost use lib.ListN.{getD};
 ghost use Rattle.items.specs.Item.{say, says, lit, openRun, stopped, text, signal, conditionTest, mark, runEnd, again, ifTest};
 ghost use Rattle.comments.specs.Place.{place};
@@ -26,18 +27,18 @@ ghost use Rattle.plan.specs.Load.{Carried};
 ghost use Rattle.plan.specs.Plans.{held, handed, left, sourceIn, Plans, PlansIn, PlansAny, AddsAny};
 
 // The cells: status, the element at which planning stopped, operations, the number of the next list. Four are free.
-pub const STATUS: usize = 0;
+const STATUS: usize = 0;
 
-pub const STOP: usize = 1;
+const STOP: usize = 1;
 
-pub const COUNT: usize = 2;
+const COUNT: usize = 2;
 
 const RUNS: usize = 3;
 
 // The status.
-pub const GOING: u32 = 0;
+const GOING: u32 = 0;
 
-pub const STOPPED: u32 = 1;
+const STOPPED: u32 = 1;
 
 const FULL: u32 = 2;
 
@@ -223,6 +224,27 @@ pub fn plan_if(ops: &mut [u32], cells: &mut [u32; 8], t: Condition)
         Condition::Always => add_numbered(ops, cells, items::IF, 0),
         Condition::Lines(m) => add_numbered(ops, cells, IF_LINES, m.0),
     }
+}
+
+// Whether planning goes on.
+pub fn is_going(cells: &[u32; 8]) -> bool
+    ensures { λ r. ⌜ r ≡ eqb (getD (now (cells .entry)) 0 0) 0 ⌝ }
+{
+    cells[STATUS] == GOING
+}
+
+// How many operations were added.
+pub fn operations(cells: &[u32; 8]) -> usize
+    ensures { λ r. ⌜ r ≡ getD (now (cells .entry)) 2 0 ⌝ }
+{
+    wide(cells[COUNT])
+}
+
+// The element at which planning stopped.
+pub fn stopped_at(cells: &[u32; 8]) -> Element
+    ensures { λ r. ⌜ r .0 ≡ getD (now (cells .entry)) 1 0 ⌝ }
+{
+    Element(cells[STOP])
 }
 
 // Stops at an element, where planning still goes on.

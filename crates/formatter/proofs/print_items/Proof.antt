@@ -1,28 +1,23 @@
-use mathlib.Core.Option.{none}
+use mathlib.Core.Bool.{false}
+use mathlib.Core.Path.{refl, sym, ap}
 use borrow.Author.Needs.{needs}
-use Rattle.formatter.proofs.Calls.{to-print, refuses, prints, stated}
+use Rattle.formatter.specs.Reply.{replyTo}
+use Rattle.formatter.proofs.Calls.{stated}
 use Rattle.formatter.proofs.print_items.Statement.{statement}
 use Rattle.formatter.proofs.print_items.Tie as tie
-
-returns-2 : tie.Need-returns-2
-returns-2 c =
-    let p = c .before .before .before .before in
-    let m = p .before .before .before .before .before in
-    stated _ _ _ none (prints _ _ _ (m .enum-told .given .1) (m .before .before .before .judge .ensures) (p .before .before .before .before .start .ensures) (p .print-source .ensures))
 
 pub print-items-spec : {M : Type 1} → statement M
 print-items-spec =
     tie.close
     (tie.spec
-    (λ c. search needs)  -- slice-aggregate-judge
-    (λ c κs. search needs)  -- judge-requires
-    (λ c. search needs)  -- enum-told
-    (λ c. search needs)  -- enum-told-2
-    (λ c. stated _ _ _ none (refuses _ _ _ none (c .enum-told2 .given .1) (c .before .before .before .judge .ensures)))  -- returns
-    (λ c κs. search needs)  -- start-requires
-    (λ c. search needs)  -- slice-aggregate-print-source
-    (λ c κs. to-print (c .before .before .before .before .enum-told .given .1) (c .before .before .before .before .before .before .before .judge .ensures))  -- print-source-requires
+    (λ c. search needs)  -- slice-aggregate-serve
+    (λ c κs. search needs)  -- serve-requires
+    (λ c. search needs)  -- enum-known-a
+    (λ c. search needs)  -- enum-known-a-2
     (λ c. search needs)  -- same-length
     (λ c. search needs)  -- same-length-2
-    returns-2  -- returns-2
+    (λ c. stated (c .before .before .before .before .before .before .before .before .serve .ensures) (ap (replyTo false) (sym (c .before .a .given .1))) refl)  -- returns
+    (λ c. search needs)  -- same-length-3
+    (λ c. search needs)  -- same-length-4
+    (λ c. stated (c .before .before .before .before .before .before .before .before .serve .ensures) (ap (replyTo false) (sym (c .before .a2 .given .1))) refl)  -- returns-2
     )

@@ -1,0 +1,26 @@
+use Rattle.formatter.proofs.Calls.{stops}
+use borrow.Author.Needs.{needs}
+use Rattle.formatter.proofs.serve.serve_in.Statement.{statement}
+use Rattle.formatter.proofs.serve.serve_in.Tie as tie
+
+returns : tie.Need-returns
+returns c = stops _ _ _ _ _ (c .before .before .before .before .before .before .before .plan-image .ensures .stops _ (c .before .outlook .given .1))
+
+pub serve-in-spec : {M : Type 1} → statement M
+serve-in-spec =
+    tie.close
+    (tie.spec
+    (λ c κs. search needs)  -- plan-image-requires
+    (λ c. search needs)  -- enum-known-outlook
+    (λ c. search needs)  -- enum-known-outlook-2
+    (λ c κs. c .before .before .before .before .before .before .before .before .before .before .before .before .plan-image .ensures .prints _ (c .before .before .before .before .before .before .outlook2 .given .1))  -- serve-planned-requires
+    (λ c. search needs)  -- same-length
+    (λ c. search needs)  -- same-length-2
+    returns  -- returns
+    (λ c. search needs)  -- same-length-3
+    (λ c. search needs)  -- same-length-4
+    (λ c. search needs)  -- same-length-5
+    (λ c. search needs)  -- same-length-6
+    (λ c. search needs)  -- same-length-7
+    (λ c. c .before .before .before .before .before .before .serve-planned .ensures)  -- returns-2
+    )

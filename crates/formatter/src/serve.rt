@@ -1,0 +1,290 @@
+// What both calls do: tests, plan, room, and then records, texts and the listing, if one is asked for.
+use crate::ListAnswer;
+use items::Count;
+use items::Printed;
+use items::RECORD;
+use listing::listing_length;
+use listing::write_listing;
+use numbers::Element;
+use numbers::refusal::Reason;
+use numbers::refusal::Refusal;
+use numbers::refusal::whole;
+use plan::is_going;
+use plan::operations;
+use plan::stopped_at;
+use plan::write::write_ops;
+use printer::plan_source;
+use tree::Tested;
+use tree::access::ENTRY;
+ghost use mathlib.Core.Path.{_≡_};
+ghost use mathlib.Core.Option.{none};
+ghost use Prim.Native.Nat.{_+_, _*_};
+ghost use Rattle.items.specs.Records.{countsOf};
+ghost use Rattle.items.specs.Machine.{noCounts};
+ghost use Rattle.tree.specs.Tree.{countN, countB};
+ghost use Rattle.tree.specs.Refusal.{refusal};
+ghost use Rattle.formatter.specs.Calls.{ServedIn, Sized, Ready, Foresees, Whole, plannedIn, WroteIn, shortage};
+
+// How many operations an array holds. The sum of 24 for each element and 4 for each byte picks one: a small image pays for
+// no clearing of a large one.
+const SMALL: usize = 1_024;
+
+const MIDDLE: usize = 8_192;
+
+const LARGE: usize = 65_536;
+
+const LARGEST: usize = 226_305;
+
+// Records for each element and each byte of text, at most.
+const EACH_ELEMENT: usize = 24;
+
+const EACH_BYTE: usize = 4;
+
+// An index has three numbers for each element, an eighth of the records.
+const ELEMENT_ROOM: usize = EACH_ELEMENT / ENTRY;
+
+// What planning comes to: the element at which the Rust stops, or so many operations.
+enum Outlook {
+    Stops(Element),
+    Prints(usize),
+}
+
+// Whether buffers have room, or which is too short.
+enum Room {
+    Enough,
+    Short(Reason),
+}
+
+// The answer to a tree image, which prints it into the lent buffers, and lists what was printed if that is asked for.
+pub fn serve(
+    image: &[u8],
+    records: &mut [u32],
+    texts: &mut [u8],
+    listing: &mut [u8],
+    listed: bool,
+) -> ListAnswer
+    ensures { λ r. ⌜ ServedIn image records texts listing listed r ⌝ }
+{
+    let t = tree::refusal(image);
+    match t {
+        Tested::Refused(r) => ListAnswer::Refused(r),
+        Tested::Accepted { elements, bytes } => {
+            let most = EACH_ELEMENT * (elements as usize) + EACH_BYTE * (bytes as usize);
+            serve_accepted(image, most, records, texts, listing, listed)
+        }
+    }
+}
+
+// The same of an image that passed the tests 1 to 9 and prints at most so many records.
+fn serve_accepted(
+    image: &[u8],
+    most: usize,
+    records: &mut [u32],
+    texts: &mut [u8],
+    listing: &mut [u8],
+    listed: bool,
+) -> ListAnswer
+    requires { ⌜ refusal (now image) ≡ none ⌝ }
+    requires { ⌜ most ≡ 24 * countN (now image) + 4 * countB (now image) ⌝ }
+    ensures { λ r. ⌜ ServedIn image records texts listing listed r ⌝ }
+{
+    if most < SMALL {
+        return serve_small(image, records, texts, listing, listed);
+    }
+    if most < MIDDLE {
+        return serve_middle(image, records, texts, listing, listed);
+    }
+    if most < LARGE {
+        return serve_large(image, records, texts, listing, listed);
+    }
+    serve_largest(image, records, texts, listing, listed)
+}
+
+// The same in the smallest arrays.
+fn serve_small(
+    image: &[u8],
+    records: &mut [u32],
+    texts: &mut [u8],
+    listing: &mut [u8],
+    listed: bool,
+) -> ListAnswer
+    requires { ⌜ Sized (now image) 1024 ⌝ }
+    ensures { λ r. ⌜ ServedIn image records texts listing listed r ⌝ }
+{
+    let mut table = [0u32; SMALL / ELEMENT_ROOM + ENTRY];
+    let mut ops = [0u32; SMALL];
+    serve_in(image, &mut table, &mut ops, records, texts, listing, listed)
+}
+
+// The same in larger ones.
+fn serve_middle(
+    image: &[u8],
+    records: &mut [u32],
+    texts: &mut [u8],
+    listing: &mut [u8],
+    listed: bool,
+) -> ListAnswer
+    requires { ⌜ Sized (now image) 8192 ⌝ }
+    ensures { λ r. ⌜ ServedIn image records texts listing listed r ⌝ }
+{
+    let mut table = [0u32; MIDDLE / ELEMENT_ROOM + ENTRY];
+    let mut ops = [0u32; MIDDLE];
+    serve_in(image, &mut table, &mut ops, records, texts, listing, listed)
+}
+
+// The same in still larger ones.
+fn serve_large(
+    image: &[u8],
+    records: &mut [u32],
+    texts: &mut [u8],
+    listing: &mut [u8],
+    listed: bool,
+) -> ListAnswer
+    requires { ⌜ Sized (now image) 65536 ⌝ }
+    ensures { λ r. ⌜ ServedIn image records texts listing listed r ⌝ }
+{
+    let mut table = [0u32; LARGE / ELEMENT_ROOM + ENTRY];
+    let mut ops = [0u32; LARGE];
+    serve_in(image, &mut table, &mut ops, records, texts, listing, listed)
+}
+
+// The same in arrays for the largest image.
+fn serve_largest(
+    image: &[u8],
+    records: &mut [u32],
+    texts: &mut [u8],
+    listing: &mut [u8],
+    listed: bool,
+) -> ListAnswer
+    requires { ⌜ Sized (now image) 226305 ⌝ }
+    ensures { λ r. ⌜ ServedIn image records texts listing listed r ⌝ }
+{
+    let mut table = [0u32; LARGEST / ELEMENT_ROOM + ENTRY];
+    let mut ops = [0u32; LARGEST];
+    serve_in(image, &mut table, &mut ops, records, texts, listing, listed)
+}
+
+// The same in lent arrays.
+fn serve_in(
+    image: &[u8],
+    table: &mut [u32],
+    ops: &mut [u32],
+    records: &mut [u32],
+    texts: &mut [u8],
+    listing: &mut [u8],
+    listed: bool,
+) -> ListAnswer
+    requires { ⌜ Ready (now image) (now table) (now ops) ⌝ }
+    ensures { λ r. ⌜ ServedIn image records texts listing listed r ⌝ }
+{
+    let outlook = plan_image(image, table, ops);
+    match outlook {
+        Outlook::Stops(e) => ListAnswer::Refused(Refusal {
+            reason: Reason::Stopped,
+            element: e,
+        }),
+        Outlook::Prints(n) => {
+            serve_planned(image, table, ops, n, records, texts, listing, listed)
+        }
+    }
+}
+
+// Writes the index of an image and the plan of its printing.
+fn plan_image(image: &[u8], table: &mut [u32], ops: &mut [u32]) -> Outlook
+    requires { ⌜ Ready (now image) (now table) (now ops) ⌝ }
+    ensures { λ r. ⌜ Foresees (now (image .entry)) (now (table .exit)) (now (ops .exit)) r ⌝ }
+{
+    tree::index::index(image, table);
+    let mut cells = [0u32; 8];
+    plan_source(ops, &mut cells, image, table);
+    if is_going(&cells) {
+        return Outlook::Prints(operations(&cells));
+    }
+    Outlook::Stops(stopped_at(&cells))
+}
+
+// The answer by a plan: why buffers are too short, or the counts of what is printed into them.
+fn serve_planned(
+    image: &[u8],
+    index: &[u32],
+    ops: &[u32],
+    n: usize,
+    records: &mut [u32],
+    texts: &mut [u8],
+    listing: &mut [u8],
+    listed: bool,
+) -> ListAnswer
+    requires { ⌜ Whole (now image) (now index) (now ops) n ⌝ }
+    ensures { λ r. ⌜ ServedIn image records texts listing listed r ⌝ }
+{
+    let c = count_plan(image, index, ops, n);
+    let bytes = listing_length(c);
+    let size = listing.len();
+    let f = fit(c, bytes, records.len(), texts.len(), size, listed);
+    if let Room::Short(reason) = f {
+        return ListAnswer::Refused(whole(reason));
+    }
+    write_plan(records, texts, image, index, ops, n);
+    if listed {
+        write_listing(records, texts, c, listing);
+    }
+    ListAnswer::Listed { counts: c, bytes }
+}
+
+// The counts of what a plan prints, by writing it into no buffer.
+fn count_plan(image: &[u8], index: &[u32], ops: &[u32], n: usize) -> Count
+    requires { ⌜ Whole (now image) (now index) (now ops) n ⌝ }
+    ensures { λ r. ⌜ r ≡ countsOf (plannedIn image index ops n) ⌝ }
+{
+    let mut records = [0u32; 0];
+    let mut texts = [0u8; 0];
+    write_plan(&mut records, &mut texts, image, index, ops, n)
+}
+
+// Writes the records and texts of a plan, as far as there is room, and counts them.
+fn write_plan(
+    records: &mut [u32],
+    texts: &mut [u8],
+    image: &[u8],
+    index: &[u32],
+    ops: &[u32],
+    n: usize,
+) -> Count
+    requires { ⌜ Whole (now image) (now index) (now ops) n ⌝ }
+    ensures { λ r. ⌜ WroteIn records texts r (plannedIn image index ops n) ⌝ }
+{
+    let p = write_ops(records, texts, image, index, ops, n, items::start());
+    let Printed::Done(c) = p else {
+        return no_counts();
+    };
+    c
+}
+
+// No counts. The items of a whole plan always fit 32 bits: no answer has these.
+fn no_counts() -> Count
+    ensures { λ r. ⌜ r ≡ noCounts ⌝ }
+{
+    Count {
+        records: 0,
+        texts: 0,
+        runs: 0,
+        marks: 0,
+        lines: 0,
+    }
+}
+
+// Whether buffers of so many words and bytes have room for what was counted, and one of so many bytes for its listing.
+fn fit(c: Count, bytes: usize, words: usize, room: usize, size: usize, listed: bool) -> Room
+    ensures { λ r. ⌜ r ≡ shortage c bytes words room size listed ⌝ }
+{
+    if words < RECORD * (c.records as usize) {
+        return Room::Short(Reason::RecordsTooShort);
+    }
+    if room < c.texts as usize {
+        return Room::Short(Reason::TextsTooShort);
+    }
+    if listed & (size < bytes) {
+        return Room::Short(Reason::ListingTooShort);
+    }
+    Room::Enough
+}
