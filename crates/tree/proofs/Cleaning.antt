@@ -25,24 +25,24 @@ use Rattle.tree.proofs.Search.{misplaced-later}
 
 -- ---- one element
 
-pub sound-node : (e : Element) → 1 ≤ e .kind → e .kind ≤ 56 → e .size ≡ 0 → Sound e
-unfolding unknownKind nodeWithText notUtf8 stringBlock misformed
-sound-node e a b z =
+pub sound-node : (e : Element) → unknownKind e ≡ false → e .kind < 64 → e .size ≡ 0 → Sound e
+unfolding nodeWithText notUtf8 stringBlock misformed
+sound-node e u k z =
     let t : leb 64 (e .kind) ≡ false = lt-leb 64 (e .kind) (omega arith) in
     record {
-      known = rw (le-leb 1 (e .kind) a, le-leb (e .kind) 56 b);
+      known = u;
       textless = rw (t, z);
       encoded = rw t;
       printable = ne-eqb (e .kind) 82 (λ q. omega arith);
       formed = rw (ne-eqb (e .kind) 68 (λ q. omega arith), ne-eqb (e .kind) 69 (λ q. omega arith), ne-eqb (e .kind) 65 (λ q. omega arith));
     }
 
-pub sound-token : (e : Element) → 64 ≤ e .kind → e .kind ≤ 107 → eqb (e .kind) 82 ≡ false → valid (e .text) ≡ true → misformed e ≡ false → Sound e
-unfolding unknownKind nodeWithText notUtf8 stringBlock
-sound-token e a b s v m =
-    let t : leb 64 (e .kind) ≡ true = le-leb 64 (e .kind) a in
+pub sound-token : (e : Element) → unknownKind e ≡ false → 64 ≤ e .kind → eqb (e .kind) 82 ≡ false → valid (e .text) ≡ true → misformed e ≡ false → Sound e
+unfolding nodeWithText notUtf8 stringBlock
+sound-token e u k s v m =
+    let t : leb 64 (e .kind) ≡ true = le-leb 64 (e .kind) k in
     record {
-      known = rw (lt-leb (e .kind) 56 (omega arith), le-leb 1 (e .kind) (omega arith), t, le-leb (e .kind) 107 b);
+      known = u;
       textless = rw t;
       encoded = rw (t, v);
       printable = s;
@@ -90,14 +90,14 @@ pub record Cleaning (image : List ℕ) (deepest at i : ℕ) : Type 0 where
   pub clean : (j : ℕ) → j < i → Clean image j
 
 pub cleaning-first : {image : List ℕ} {b : Bool} {n p : ℕ} → Measured image → b ≡ (eqb (kindIn image 0) 1 && (eqb (levelIn image 0) 0 && eqb (sizeIn image 0) 0)) → b ≡ true → n ≡ countN image → p ≡ 4 + 8 * n → Cleaning image 1 (p + 4) 1
-unfolding startIn
+unfolding startIn unknownKind
 cleaning-first {image} {b} {n} {p} m q t e f =
     let (u, v) = and-true (eqb (kindIn image 0) 1) _ (sym q ∙ t) in
     let (x, y) = and-true (eqb (levelIn image 0) 0) _ v in
     let k : kindIn image 0 ≡ 1 = eqb-true _ _ u in
     let l : levelIn image 0 ≡ 0 = eqb-true _ _ x in
     let z : sizeIn image 0 ≡ 0 = eqb-true _ _ y in
-    let first : Clean image 0 = record { sound = sound-node (elementIn image 0) (omega arith) (omega arith) z; placed = λ h. absurd (omega arith); named = rw k } in
+    let first : Clean image 0 = record { sound = sound-node (elementIn image 0) (rw k) (omega arith) z; placed = λ h. absurd (omega arith); named = rw k } in
     record {
       behind = omega arith;
       upto = omega (arith, m .not-empty);

@@ -5,6 +5,7 @@ use super::read;
 use super::read::COUNT;
 use super::refuse::MAX_LEVEL;
 use super::refuse::is_misformed;
+use super::refuse::is_unknown;
 use super::refuse::nameless_at;
 use numbers::kind;
 ghost use mathlib.Core.Path.{_≡_};
@@ -60,11 +61,11 @@ fn is_sound(kind: u32, ascii: bool, s: &[u8]) -> bool
     requires { ⌜ (ascii ≡ true → Ascii (now s)) ⌝ }
     ensures { λ r. ⌜ (r ≡ true → Sound (part kind (now (s .entry)))) ⌝ }
 {
-    if kind < kind::FIRST_TOKEN {
-        return (kind::FIRST_NODE <= kind) & ((kind <= kind::LAST_NODE) & (s.len() == 0));
-    }
-    if (kind::LAST_TOKEN < kind) | (kind == kind::STRING_BLOCK) {
+    if is_unknown(kind) | (kind == kind::STRING_BLOCK) {
         return false;
+    }
+    if kind < kind::FIRST_TOKEN {
+        return s.len() == 0;
     }
     if !is_valid(ascii, s) {
         return false;

@@ -7,6 +7,7 @@ use numbers::Element;
 use numbers::kind;
 ghost use mathlib.Core.Path.{_≡_};
 ghost use mathlib.Core.Bool.{not, _&&_};
+ghost use mathlib.Core.List.{[]};
 ghost use Prim.Native.Nat.{_+_, _*_, _<_, _≤_, suc};
 ghost use lib.Dec.{eqb};
 ghost use lib.ListN.{length, drop};
@@ -54,13 +55,19 @@ pub fn out_of_limits(image: &[u8]) -> bool
     (n == 0) | ((MAX_ELEMENTS < n) | (MAX_BYTES < b))
 }
 
+// A kind is not in the tables.
+pub fn is_unknown(k: u32) -> bool
+    ensures { λ r. ⌜ r ≡ unknownKind (part k []) ⌝ }
+{
+    !(((kind::FIRST_NODE <= k) & (k <= kind::LAST_NODE))
+        | ((kind::FIRST_TOKEN <= k) & (k <= kind::LAST_TOKEN)))
+}
+
 // The kind of element i is not in the tables.
 fn unknown_kind_at(image: &[u8], i: u32) -> bool
     ensures { λ r. ⌜ r ≡ unknownKind (elementIn (now (image .entry)) i) ⌝ }
 {
-    let k = read::kind_of(image, i);
-    !(((kind::FIRST_NODE <= k) & (k <= kind::LAST_NODE))
-        | ((kind::FIRST_TOKEN <= k) & (k <= kind::LAST_TOKEN)))
+    is_unknown(read::kind_of(image, i))
 }
 
 // Element i, behind the element before, is where no element may be.
