@@ -24,9 +24,9 @@ unfolding firstRefusal
 left-clean e = record { still = e }
 
 -- no test is left
-pub left-none : {image : List ℕ} {n b : ℕ} → Left image [] → n ≡ countN image → b ≡ countB image → passed n b ≡ answer image
+pub left-none : {image : List ℕ} → Left image [] → passed (countN image) (countB image) ≡ answer image
 unfolding answer firstRefusal
-left-none l p q = rw (l .still, p, q)
+left-none l = rw (l .still)
 
 module _ {image : List ℕ} {ts : List (Option Refusal)} (k : ℕ) where
   module _ {b t : Bool} (l : Left image (refusedIf k t ∷ ts)) (e : b ≡ t) where

@@ -92,9 +92,8 @@ refusal-spec =
     (λ c κs. search needs)  -- whole-requires-2
     (λ c. rw (c .whole2 .ensures) (if-so 2 (left-1 (c .before .before .before)) (c .before .before .out-of-limits .ensures) (c .before .if2 .taken)))  -- returns-2
     (λ c κs. passed-two c)  -- is-clean-requires
-    (λ c κs. search needs)  -- element-count-requires
-    (λ c κs. search needs)  -- byte-count-requires
-    (λ c. left-none (left-clean (c .before .before .before .is-clean .ensures (c .before .before .if3 .taken))) (c .before .element-count .ensures) (c .byte-count .ensures))  -- returns-3
+    (λ c κs. search needs)  -- passed-requires
+    (λ c. rw (c .passed .ensures) (left-none (left-clean (c .before .before .is-clean .ensures (c .before .if3 .taken)))))  -- returns-3
     (λ c κs. search needs)  -- first-where-requires
     (λ c. search needs)  -- enum-known-unknown
     (λ c κs. search needs)  -- refused-requires
@@ -130,7 +129,6 @@ refusal-spec =
     (λ c κs. search needs)  -- refused-requires-7
     (λ c. rw (c .refused7 .ensures) (at-one 9 (left-8 (c .before .before .before .before .before)) (c .before .before .before .before .first-nameless .ensures) _ (c .before .before .name .given .1)))  -- returns-10
     (λ c. search needs)  -- enum-told-7
-    (λ c κs. search needs)  -- element-count-requires-2
-    (λ c κs. search needs)  -- byte-count-requires-2
-    (λ c. left-none (left-9 (c .before .before)) (c .before .element-count2 .ensures) (c .byte-count2 .ensures))  -- returns-11
+    (λ c κs. search needs)  -- passed-requires-2
+    (λ c. rw (c .passed2 .ensures) (left-none (left-9 (c .before))))  -- returns-11
     )
