@@ -56,8 +56,24 @@ sum-none true n none h = (refl, refl)
 sum-none false n none h = absurd (never n h)
 sum-none b n (some e) h = absurd (never e h)
 
+-- What the tests 1 and 2 leave: the image's numbers are in their limits.
+pub record Measured (image : List ℕ) : Type 0 where
+  pub long : length image ≡ 8 + 8 * countN image + countB image
+  pub not-empty : 0 < countN image
+  pub few-elements : countN image ≤ 4096
+  pub few-bytes : countB image ≤ 32000
+
+pub measured : (image : List ℕ) → wrongLength image ≡ false → outOfLimits image ≡ false → Measured image
+unfolding wrongLength outOfLimits
+measured image t₁ t₂ =
+    let (a, b) = or-false (ltb (length image) (8 + 8 * countN image)) _ (or-false (ltb (length image) 4) _ t₁ .1) in
+    let (c, d) = or-false (eqb (countN image) 0) _ t₂ in
+    let (e, f) = or-false (ltb 4096 (countN image)) _ d in
+    let g : countN image ≡ 0 → ⊥ = eqb-false (countN image) 0 c in
+    record { long = eqb-true _ _ (not-false _ b); not-empty = omega arith; few-elements = ltb-false 4096 (countN image) e; few-bytes = ltb-false 32000 (countB image) f }
+
 pub accepted : (image : List ℕ) → refusal image ≡ none → Accepted image
-unfolding refusal tests wrongLength outOfLimits wrongSizes
+unfolding refusal tests wrongSizes
 accepted image h =
     let (t₁, r₁) = all-none _ _ h in
     let (t₂, r₂) = all-none _ _ r₁ in
@@ -68,16 +84,13 @@ accepted image h =
     let (t₇, r₇) = all-none _ _ r₆ in
     let (t₈, r₈) = all-none _ _ r₇ in
     let (t₉, r₉) = all-none _ _ r₈ in
-    let (a, b) = or-false (ltb (length image) (8 + 8 * countN image)) _ (or-false (ltb (length image) 4) _ (if-none 1 _ t₁) .1) in
-    let (c, d) = or-false (eqb (countN image) 0) _ (if-none 2 _ t₂) in
-    let (e, f) = or-false (ltb 4096 (countN image)) _ d in
+    let m = measured image (if-none 1 _ t₁) (if-none 2 _ t₂) in
     let (s, u) = sum-none (eqb (sum (λ x. x .size) (elementsOf image)) (countB image)) (countN image) (firstWhere nodeWithText (elementsOf image)) (at-none 5 (wrongSizes image (elementsOf image)) t₅) in
-    let g : countN image ≡ 0 → ⊥ = eqb-false (countN image) 0 c in
     record {
-      long = eqb-true _ _ (not-false _ b);
-      not-empty = omega arith;
-      few-elements = ltb-false 4096 (countN image) e;
-      few-bytes = ltb-false 32000 (countB image) f;
+      long = m .long;
+      not-empty = m .not-empty;
+      few-elements = m .few-elements;
+      few-bytes = m .few-bytes;
       kinds = at-none 3 _ t₃;
       places = at-none 4 _ t₄;
       nodes = u;

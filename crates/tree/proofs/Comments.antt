@@ -11,7 +11,7 @@ use Rattle.text.specs.Text.{endsWith}
 use Rattle.tree.specs.Tree.{Element}
 use Rattle.tree.specs.Refusal.{misformed}
 
-or-none : (b : Bool) → b ≡ (b || false)
+pub or-none : (b : Bool) → b ≡ (b || false)
 or-none true = refl
 or-none false = refl
 

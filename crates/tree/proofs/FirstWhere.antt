@@ -56,6 +56,11 @@ module _ {image : List ℕ} {G : ℕ → Option ℕ} {T : ℕ → Bool} (w : Sea
   pub never : (i : ℕ) → i < countN image → G i ≡ none → T i ≡ false
   never i h g = split-none (T i) i (G (i + 1)) (sym (w .turn i h) ∙ g) .0
 
+  -- where each fails the test, nothing is found; d is how many elements are left
+  pub all-fail : (a d : ℕ) → countN image ≡ a + d → ((j : ℕ) → a ≤ j → j < countN image → T j ≡ false) → G a ≡ none
+  all-fail a zero e f = let q : a ≡ countN image = omega arith in rw q (w .over)
+  all-fail a (suc d) e f = w .turn a (omega arith) ∙ rw (f a (omega arith) (omega arith)) (all-fail (a + 1) d (omega arith) (λ j h k. f j (omega arith) k))
+
 -- where no element is found, each fails the test
 pub where-never : (f : Element → Bool) (image : List ℕ) (i : ℕ) → i < countN image → firstWhere f (elementsOf image) ≡ none → f (elementIn image i) ≡ false
 where-never f image i h g =

@@ -1,8 +1,10 @@
 -- Laws that belong to no one function. Those of a `pub mod` are cited by other crates.
 pub mod Accepted
 mod Answers
+mod Asciis
 pub mod Children
 mod Classes
+mod Cleaning
 mod Comments
 pub mod Elements
 mod Ending

@@ -1,7 +1,7 @@
 -- The tests in their order: what the tests that are left say is what all say.
 use mathlib.Core.Path.{_≡_, refl}
 use mathlib.Core.Bool.{Bool, true, false}
-use mathlib.Core.Option.{Option}
+use mathlib.Core.Option.{Option, none}
 use mathlib.Core.List.{List, [], _∷_}
 use Prim.Native.Nat.{ℕ}
 use Rattle.tree.specs.Tree.{countN, countB}
@@ -18,10 +18,15 @@ pub left-all : (image : List ℕ) → Left image (tests image)
 unfolding refusal
 left-all image = record { still = refl }
 
+-- a pass over all tests at once leaves none
+pub left-clean : {image : List ℕ} → refusal image ≡ none → Left image []
+unfolding firstRefusal
+left-clean e = record { still = e }
+
 -- no test is left
-pub left-none : {image : List ℕ} {n b : ℕ} → Left image [] → n ≡ countN image → b ≡ countB image → passed n b ≡ answer image
+pub left-none : {image : List ℕ} → Left image [] → passed (countN image) (countB image) ≡ answer image
 unfolding answer firstRefusal
-left-none l p q = rw (l .still, p, q)
+left-none l = rw (l .still)
 
 module _ {image : List ℕ} {ts : List (Option Refusal)} (k : ℕ) where
   module _ {b t : Bool} (l : Left image (refusedIf k t ∷ ts)) (e : b ≡ t) where

@@ -2,6 +2,7 @@
 pub mod Tree
 pub mod Class
 pub mod Refusal
+pub mod Clean
 pub mod Answer
 pub mod Image
 pub mod Index

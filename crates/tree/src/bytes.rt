@@ -1,4 +1,4 @@
-// Numbers at a place of a slice; a byte past its end is 0.
+// Numbers at a place of a slice. A byte past its end is 0; where the caller knows that there is none, nothing is tested.
 ghost use mathlib.Core.Path.{_≡_};
 ghost use Prim.Native.Nat.{_+_, _-_, _<_, _^_};
 ghost use lib.ListN.{length, take, drop};
@@ -77,6 +77,34 @@ pub fn header_at(s: &[u8], at: usize) -> Header
         kind: u16_at(t, 0) as u32,
         level: u16_at(t, LEVEL),
         size: u32_at(t, LENGTH),
+    }
+}
+
+// The number of two bytes that stand in s.
+pub fn short_in(s: &[u8], at: usize) -> u16
+    requires { ⌜ at + 1 < length (now s) ⌝ }
+    ensures { λ r. ⌜ r ≡ le16 (now (s .entry)) at ⌝ }
+{
+    s[at] as u16 + 256 * (s[at + 1] as u16)
+}
+
+// The number of four bytes that stand in s.
+pub fn number_in(s: &[u8], at: usize) -> u32
+    requires { ⌜ at + 3 < length (now s) ⌝ }
+    ensures { λ r. ⌜ r ≡ le32 (now (s .entry)) at ⌝ }
+{
+    short_in(s, at) as u32 + 65536 * (short_in(s, at + 2) as u32)
+}
+
+// The element whose eight bytes stand in s.
+pub fn header_in(s: &[u8], at: usize) -> Header
+    requires { ⌜ at + 7 < length (now s) ⌝ }
+    ensures { λ r. ⌜ r ≡ headerAt (now (s .entry)) at ⌝ }
+{
+    Header {
+        kind: short_in(s, at) as u32,
+        level: short_in(s, at + LEVEL),
+        size: number_in(s, at + LENGTH),
     }
 }
 

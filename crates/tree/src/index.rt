@@ -6,7 +6,7 @@ use super::access::ENTRY;
 use super::access::START;
 use super::read;
 ghost use mathlib.Core.Path.{_≡_};
-ghost use Prim.Native.Nat.{_+_, _*_, _<_};
+ghost use Prim.Native.Nat.{_+_, _*_, _<_, _≤_};
 ghost use lib.ListN.{length, set};
 ghost use Rattle.tree.specs.Tree.{countN};
 ghost use Rattle.tree.specs.Index.{IndexedFrom, Indexable, Filled, Tried, endIn};
@@ -24,16 +24,17 @@ fn put_entry(table: &mut [u32], i: u32, kind: u32, end: u32, start: u32)
 
 // Where the subtree of element i ends: jumps over the subtrees behind it that are deeper. Each subtree is jumped over
 // once in all, since the element that jumped over it is met first from then on.
-fn find_end(image: &[u8], table: &[u32], i: u32) -> u32
-    requires { ⌜ i < countN (now image) ⌝ }
+fn find_end(image: &[u8], table: &[u32], n: u32, i: u32) -> u32
+    requires { ⌜ n ≡ countN (now image) ⌝ }
+    requires { ⌜ 8 + 8 * n ≤ length (now image) ⌝ }
+    requires { ⌜ i < n ⌝ }
     requires { ⌜ IndexedFrom (now image) (now table) (i + 1) ⌝ }
     ensures { λ r. ⌜ r ≡ endIn (now (image .entry)) i ⌝ }
 {
-    let n = read::element_count(image);
-    let level = read::level_of(image, i);
+    let level = read::level_in(image, i);
     let mut j = i + 1;
     while j < n {
-        if read::level_of(image, j) <= level {
+        if read::level_in(image, j) <= level {
             return j;
         }
         j = table[(j as usize) * ENTRY + END];
@@ -46,15 +47,15 @@ pub fn index(image: &[u8], table: &mut [u32])
     requires { ⌜ Indexable (now image) (now table) ⌝ }
     ensures { λ _. ⌜ Filled (now (image .entry)) (now (table .entry)) (now (table .exit)) ⌝ }
 {
-    let n = read::element_count(image);
+    let n = read::count_in(image);
     let mut start = image.len() as u32;
     put_entry(table, n, 0, n, start);
     let mut i = n;
     while 0 < i {
         i -= 1;
-        start -= read::size_of(image, i);
-        let kind = read::kind_of(image, i);
-        let end = find_end(image, table, i);
+        start -= read::size_in(image, i);
+        let kind = read::kind_in(image, i);
+        let end = find_end(image, table, n, i);
         put_entry(table, i, kind, end, start);
     }
 }

@@ -2,6 +2,7 @@
 pub mod access;
 mod bytes;
 pub mod class;
+mod clean;
 pub mod index;
 mod read;
 mod reader;
@@ -16,7 +17,8 @@ use refuse::Test;
 ghost use mathlib.Core.Path.{_≡_};
 ghost use mathlib.Core.Bool.{not};
 ghost use Rattle.text.specs.Basic.{present, orElse};
-ghost use Rattle.tree.specs.declared.Tested.the-variants.{Refused};
+ghost use Rattle.tree.specs.Tree.{countN, countB};
+ghost use Rattle.tree.specs.declared.Tested.the-variants.{Refused, Accepted};
 ghost use Rattle.tree.specs.Answer.{found, said, answer};
 
 // The element that was looked for.
@@ -58,7 +60,18 @@ fn refused(reason: Reason, element: Element) -> Tested
     Tested::Refused(Refusal { reason, element })
 }
 
-// The tests 1 to 9, each over the whole image before the next.
+// The image passed the tests.
+fn passed(image: &[u8]) -> Tested
+    ensures { λ r. ⌜ r ≡ Accepted (countN (now (image .entry))) (countB (now (image .entry))) ⌝ }
+{
+    Tested::Accepted {
+        elements: read::element_count(image),
+        bytes: read::byte_count(image),
+    }
+}
+
+// The tests 1 to 9, each over the whole image before the next. All but the first two are passed at once by an image in which
+// no element offends.
 pub fn refusal(image: &[u8]) -> Tested
     ensures { λ r. ⌜ said r ≡ answer (now (image .entry)) ⌝ }
 {
@@ -67,6 +80,9 @@ pub fn refusal(image: &[u8]) -> Tested
     }
     if refuse::out_of_limits(image) {
         return Tested::Refused(whole(Reason::OutOfLimits));
+    }
+    if clean::is_clean(image) {
+        return passed(image);
     }
     let unknown = refuse::first_where(image, Test::UnknownKind);
     if let Found::At(e) = unknown {
@@ -96,8 +112,5 @@ pub fn refusal(image: &[u8]) -> Tested
     if let Found::At(e) = name {
         return refused(Reason::Nameless, e);
     }
-    Tested::Accepted {
-        elements: read::element_count(image),
-        bytes: read::byte_count(image),
-    }
+    passed(image)
 }

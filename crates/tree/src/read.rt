@@ -1,11 +1,13 @@
-// An image's counts, elements and texts, each read at its place.
+// An image's counts, elements and texts, each read at its place. Those that end in `in` ask that it stands in the image, and
+// test nothing.
 use super::bytes;
 use super::bytes::Header;
 use super::bytes::LENGTH;
 use super::bytes::LEVEL;
 use super::reader;
 ghost use mathlib.Core.Path.{_≡_};
-ghost use Prim.Native.Nat.{_+_, _*_};
+ghost use Prim.Native.Nat.{_+_, _*_, _≤_};
+ghost use lib.ListN.{length};
 ghost use Rattle.tree.specs.Tree.{countN, countB, textsOf};
 ghost use Rattle.tree.specs.Image.{kindIn, levelIn, sizeIn, startIn, textIn};
 
@@ -49,16 +51,47 @@ pub fn kind_of(image: &[u8], i: u32) -> u32
     reader::short_from(image, place_of(i)) as u32
 }
 
-pub fn level_of(image: &[u8], i: u32) -> u16
-    ensures { λ r. ⌜ r ≡ levelIn (now (image .entry)) i ⌝ }
-{
-    reader::short_from(image, place_of(i) + LEVEL)
-}
-
 pub fn size_of(image: &[u8], i: u32) -> u32
     ensures { λ r. ⌜ r ≡ sizeIn (now (image .entry)) i ⌝ }
 {
     reader::number_from(image, place_of(i) + LENGTH)
+}
+
+// N.
+pub fn count_in(image: &[u8]) -> u32
+    requires { ⌜ 4 ≤ length (now image) ⌝ }
+    ensures { λ r. ⌜ r ≡ countN (now (image .entry)) ⌝ }
+{
+    bytes::number_in(image, 0)
+}
+
+// Element i.
+pub fn element_in(image: &[u8], i: u32) -> Header
+    requires { ⌜ 12 + 8 * i ≤ length (now image) ⌝ }
+    ensures { λ r. ⌜ r ≡ record { kind = kindIn (now (image .entry)) i; level = levelIn (now (image .entry)) i; size = sizeIn (now (image .entry)) i } ⌝ }
+{
+    bytes::header_in(image, place_of(i))
+}
+
+pub fn kind_in(image: &[u8], i: u32) -> u32
+    requires { ⌜ 12 + 8 * i ≤ length (now image) ⌝ }
+    ensures { λ r. ⌜ r ≡ kindIn (now (image .entry)) i ⌝ }
+{
+    bytes::short_in(image, place_of(i)) as u32
+}
+
+pub fn level_in(image: &[u8], i: u32) -> u16
+    requires { ⌜ 12 + 8 * i ≤ length (now image) ⌝ }
+    ensures { λ r. ⌜ r ≡ levelIn (now (image .entry)) i ⌝ }
+{
+    bytes::short_in(image, place_of(i) + LEVEL)
+}
+
+pub fn size_in(image: &[u8], i: u32) -> u32
+    requires { ⌜ 12 + 8 * i ≤ length (now image) ⌝ }
+    ensures { λ r. ⌜ r ≡ sizeIn (now (image .entry)) i ⌝ }
+{
+    bytes::number_in(image, place_of(i) + LENGTH)
 }
 
 // The texts, joined.

@@ -7,21 +7,23 @@ use numbers::Element;
 use numbers::kind;
 ghost use mathlib.Core.Path.{_≡_};
 ghost use mathlib.Core.Bool.{not, _&&_};
-ghost use Prim.Native.Nat.{_+_, _<_, suc};
+ghost use mathlib.Core.List.{[]};
+ghost use Prim.Native.Nat.{_+_, _*_, _<_, _≤_, suc};
 ghost use lib.Dec.{eqb};
-ghost use lib.ListN.{drop};
+ghost use lib.ListN.{length, drop};
 ghost use Rattle.text.specs.Basic.{sum};
 ghost use Rattle.tree.specs.Tree;
 ghost use Rattle.tree.specs.Tree.{countN, elementsOf};
 ghost use Rattle.tree.specs.Image.{kindIn, levelIn, startIn, elementIn};
 ghost use Rattle.tree.specs.Refusal.{wrongLength, outOfLimits, firstWhere, unknownKind, misplaced, firstMisplaced, nodeWithText, wrongSizes, notUtf8, stringBlock, misformed, noIdent, firstNameless, testOf, misformedBlock, namelessIn};
+ghost use Rattle.tree.specs.Clean.{part};
 ghost use Rattle.tree.specs.Answer.{found};
 
 const MAX_ELEMENTS: u32 = 4096;
 
 const MAX_BYTES: u32 = 32000;
 
-const MAX_LEVEL: u32 = 200;
+pub const MAX_LEVEL: u32 = 200;
 
 // A test that looks at one element: for one of an unknown kind (3), a node with a length (5), a token whose text is not valid
 // UTF-8 (6), a string block (7), a misformed comment (8).
@@ -53,13 +55,19 @@ pub fn out_of_limits(image: &[u8]) -> bool
     (n == 0) | ((MAX_ELEMENTS < n) | (MAX_BYTES < b))
 }
 
+// A kind is not in the tables.
+pub fn is_unknown(k: u32) -> bool
+    ensures { λ r. ⌜ r ≡ unknownKind (part k []) ⌝ }
+{
+    !(((kind::FIRST_NODE <= k) & (k <= kind::LAST_NODE))
+        | ((kind::FIRST_TOKEN <= k) & (k <= kind::LAST_TOKEN)))
+}
+
 // The kind of element i is not in the tables.
 fn unknown_kind_at(image: &[u8], i: u32) -> bool
     ensures { λ r. ⌜ r ≡ unknownKind (elementIn (now (image .entry)) i) ⌝ }
 {
-    let k = read::kind_of(image, i);
-    !(((kind::FIRST_NODE <= k) & (k <= kind::LAST_NODE))
-        | ((kind::FIRST_TOKEN <= k) & (k <= kind::LAST_TOKEN)))
+    is_unknown(read::kind_of(image, i))
 }
 
 // Element i, behind the element before, is where no element may be.
@@ -140,13 +148,10 @@ fn misformed_multi_line(s: &[u8]) -> bool
     (s.len() < 4) | (!opened | !closed)
 }
 
-// Element i is a misformed comment.
-fn misformed_at(image: &[u8], i: u32, at: usize) -> bool
-    requires { ⌜ at ≡ startIn (now image) i ⌝ }
-    ensures { λ r. ⌜ r ≡ misformed (elementIn (now (image .entry)) i) ⌝ }
+// An element of this kind with this text is a misformed comment.
+pub fn is_misformed(k: u32, s: &[u8]) -> bool
+    ensures { λ r. ⌜ r ≡ misformed (part k (now (s .entry))) ⌝ }
 {
-    let k = read::kind_of(image, i);
-    let s = read::text_of(image, i, at);
     if k == kind::SINGLE_LINE_HASH_COMMENT {
         return !text::starts_with(s, b"#");
     }
@@ -157,6 +162,15 @@ fn misformed_at(image: &[u8], i: u32, at: usize) -> bool
         return misformed_multi_line(s);
     }
     false
+}
+
+// Element i is a misformed comment.
+fn misformed_at(image: &[u8], i: u32, at: usize) -> bool
+    requires { ⌜ at ≡ startIn (now image) i ⌝ }
+    ensures { λ r. ⌜ r ≡ misformed (elementIn (now (image .entry)) i) ⌝ }
+{
+    let k = read::kind_of(image, i);
+    is_misformed(k, read::text_of(image, i, at))
 }
 
 // Element i, whose text starts at place at of the texts, is what a test looks for.
@@ -221,22 +235,24 @@ pub fn wrong_sizes(image: &[u8]) -> Found
 
 // Element i is an identifier at the level below a Name's.
 fn ident_under(image: &[u8], name: u16, i: u32) -> bool
+    requires { ⌜ 12 + 8 * i ≤ length (now image) ⌝ }
     ensures { λ r. ⌜ r ≡ (eqb (levelIn (now (image .entry)) i) (name + 1) && eqb (kindIn (now (image .entry)) i) 90) ⌝ }
 {
-    (read::level_of(image, i) as u32 == name as u32 + 1) & (read::kind_of(image, i) == kind::IDENT)
+    (read::level_in(image, i) as u32 == name as u32 + 1) & (read::kind_in(image, i) == kind::IDENT)
 }
 
 // No direct child of element i is an identifier. Walks the subtree of i at most: the walks for all Names take no
 // more than a step for each element and each level, of which there are 200 after test 4.
 fn lacks_ident(image: &[u8], i: u32) -> bool
     requires { ⌜ i < countN (now image) ⌝ }
+    requires { ⌜ 8 + 8 * countN (now image) ≤ length (now image) ⌝ }
     ensures { λ r. ⌜ r ≡ noIdent (suc (levelIn (now (image .entry)) i)) (drop (i + 1) (elementsOf (now (image .entry)))) ⌝ }
 {
-    let n = read::element_count(image);
-    let name = read::level_of(image, i);
+    let n = read::count_in(image);
+    let name = read::level_in(image, i);
     let mut j = i + 1;
     while j < n {
-        if read::level_of(image, j) <= name {
+        if read::level_in(image, j) <= name {
             return true;
         }
         if ident_under(image, name, j) {
@@ -248,11 +264,12 @@ fn lacks_ident(image: &[u8], i: u32) -> bool
 }
 
 // Element i is a Name without an identifier.
-fn nameless_at(image: &[u8], i: u32) -> bool
+pub fn nameless_at(image: &[u8], i: u32) -> bool
     requires { ⌜ i < countN (now image) ⌝ }
+    requires { ⌜ 8 + 8 * countN (now image) ≤ length (now image) ⌝ }
     ensures { λ r. ⌜ r ≡ namelessIn (now (image .entry)) i ⌝ }
 {
-    if read::kind_of(image, i) != kind::NAME {
+    if read::kind_in(image, i) != kind::NAME {
         return false;
     }
     lacks_ident(image, i)
@@ -260,6 +277,7 @@ fn nameless_at(image: &[u8], i: u32) -> bool
 
 // 9: the first Name without an identifier.
 pub fn first_nameless(image: &[u8]) -> Found
+    requires { ⌜ 8 + 8 * countN (now image) ≤ length (now image) ⌝ }
     ensures { λ r. ⌜ found r ≡ firstNameless (elementsOf (now (image .entry))) ⌝ }
 {
     let n = read::element_count(image);

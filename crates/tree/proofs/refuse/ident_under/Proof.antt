@@ -6,9 +6,9 @@ pub ident-under-spec : {M : Type 1} → statement M
 ident-under-spec =
     tie.close
     (tie.spec
-    (λ c κs. search needs)  -- level-of-requires
+    (λ c κs. search needs)  -- level-in-requires
     (λ c. search needs)  -- cast-result
     (λ c. search needs)  -- add-result
-    (λ c κs. search needs)  -- kind-of-requires
-    (λ c. rw (← (c .before .level-of .ensures), ← (c .kind-of .ensures)))  -- returns
+    (λ c κs. search needs)  -- kind-in-requires
+    (λ c. rw (← (c .before .level-in .ensures), ← (c .kind-in .ensures)))  -- returns
     )

@@ -19,16 +19,16 @@ lacks-ident-spec =
     (tie.spec
     Inv-loop
     μ-loop
-    (λ c κs. search needs)  -- element-count-requires
-    (λ c κs. search needs)  -- level-of-requires
+    (λ c κs. search needs)  -- count-in-requires
+    (λ c κs. search needs)  -- level-in-requires
     (λ c. search needs)  -- add-j
-    (λ c. record { upto = omega arith; rest = rw (c .level-of .ensures) })  -- loop-holds
-    (λ c κs. search needs)  -- level-of-requires-2
+    (λ c. record { upto = omega arith; rest = rw (c .level-in .ensures) })  -- loop-holds
+    (λ c κs. search needs)  -- level-in-requires-2
     (λ c. walking-met true (c .before .before .before .loop .inv) (search ident-none))  -- returns
     (λ c κs. search needs)  -- ident-under-requires
     (λ c. walking-met false (c .before .before .before .before .before .loop .inv) (search ident-here))  -- returns-2
     (λ c. search needs)  -- add-j-2
     (λ c. search needs)  -- loop-less
-    (λ c. walking-on (c .before .before .before .before .before .loop .inv) (c .before .before .before .before .before .before .before .element-count .ensures) (c .before .before .before .before .loop-test .taken) (search ident-later))  -- loop-again
+    (λ c. walking-on (c .before .before .before .before .before .loop .inv) (c .before .before .before .before .before .before .before .count-in .ensures) (c .before .before .before .before .loop-test .taken) (search ident-later))  -- loop-again
     (λ c. search (walking-all, ident-over))  -- returns-3
     )

@@ -7,8 +7,8 @@ pub nameless-at-spec : {M : Type 1} → statement M
 nameless-at-spec =
     tie.close
     (tie.spec
-    (λ c κs. search needs)  -- kind-of-requires
-    (λ c. rw (← (c .before .kind-of .ensures), ne-eqb _ 43 (c .if1 .taken)))  -- returns
+    (λ c κs. search needs)  -- kind-in-requires
+    (λ c. rw (← (c .before .kind-in .ensures), ne-eqb _ 43 (c .if1 .taken)))  -- returns
     (λ c κs. search needs)  -- lacks-ident-requires
-    (λ c. rw (← (c .before .before .kind-of .ensures), eq-eqb _ 43 (c .before .if1 .left)) (c .lacks-ident .ensures))  -- returns-2
+    (λ c. rw (← (c .before .before .kind-in .ensures), eq-eqb _ 43 (c .before .if1 .left)) (c .lacks-ident .ensures))  -- returns-2
     )

@@ -9,5 +9,6 @@ unknown-kind-at-spec =
     tie.close
     (tie.spec
     (λ c κs. search needs)  -- kind-of-requires
-    (λ c. rw (← (c .kind-of .ensures)))  -- returns
+    (λ c κs. search needs)  -- is-unknown-requires
+    (λ c. rw (← (c .before .kind-of .ensures)) (c .is-unknown .ensures))  -- returns
     )
