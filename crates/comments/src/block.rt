@@ -192,19 +192,20 @@ fn print_one(
     print_end(records, texts, loc, d)
 }
 
-// A comment with these lines, of which the first and the last are not empty.
+// A comment with these lines, of which the first and the last are not empty and the second begins at `second`.
 fn print_block(
     records: &mut [u32],
     texts: &mut [u8],
     doc: bool,
     immediate: bool,
     s: &[u8],
+    second: usize,
     loc: CommentLocation,
     p: Printed,
 ) -> Printed
+    requires { ⌜ second ≡ suc (lineEnd (now s) 0) ⌝ }
     ensures { λ r. ⌜ SaysIn records texts p r (blockOf doc immediate (rows (now (s .entry)) 0) (place loc)) ⌝ }
 {
-    let second = next_row(s, 0);
     if doc {
         return print_many(records, texts, doc, immediate, s, second, p);
     }
@@ -248,7 +249,18 @@ pub fn print_multi_line(
         return p;
     }
     let first = first_row(rest);
-    print_block(records, texts, doc, first == 0, behind(rest, first), loc, p)
+    let start = first.start;
+    let second = first.next - start;
+    print_block(
+        records,
+        texts,
+        doc,
+        start == 0,
+        behind(rest, start),
+        second,
+        loc,
+        p,
+    )
 }
 
 // Whether a multi-line comment has no text, and so prints nothing.
