@@ -252,7 +252,7 @@ module _ (r t : List ℕ) (e : t ≡ trimEnd r) (n : length t ≡ 0 → ⊥) whe
   from-rows = ap (dropWhile isNil) (sym kept) ∙ sym (drops-commute isNil (map trimEnd (lines r)))
 
   module _ (i : ℕ) (f : FirstRow t i) where
-    first-within : i ≤ length t
+    pub first-within : i ≤ length t
     first-within = go (leb i (length t)) refl
       where
         go : (b : Bool) → leb i (length t) ≡ b → i ≤ length t

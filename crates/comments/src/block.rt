@@ -12,9 +12,10 @@ use items::Signal;
 ghost use mathlib.Core.Path.{_≡_};
 ghost use mathlib.Core.Bool.{true, false, cond};
 ghost use mathlib.Core.List.{[], _∷_, map, flatten};
-ghost use Prim.Native.Nat.{_-_};
+ghost use Prim.Native.Nat.{suc, _-_};
 ghost use lib.ListN.{length, drop, take};
 ghost use Rattle.text.specs.Basic.{ascii, isNil};
+ghost use Rattle.text.specs.Text.{lineEnd};
 ghost use Rattle.items.specs.Item.{text, tab};
 ghost use Rattle.items.specs.Machine.{SaysIn};
 ghost use Rattle.comments.specs.Comments.{Location, optional, tabbed, oneLine, unpadded, manyLines, onOneLine, blockOf, multiLine};
@@ -89,48 +90,67 @@ fn print_rows(
     let mut q = p;
     let mut j = i;
     while j <= s.len() {
-        q = print_row(records, texts, doc, behind(row(s, j), n), q);
-        j = next_row(s, j);
+        let next = next_row(s, j);
+        q = print_row(records, texts, doc, behind(row(s, j, next), n), q);
+        j = next;
     }
     q
 }
 
 // The lines of a comment that does not begin beside its opening, without their common padding.
-fn print_below(records: &mut [u32], texts: &mut [u8], doc: bool, s: &[u8], p: Printed) -> Printed
+fn print_below(
+    records: &mut [u32],
+    texts: &mut [u8],
+    doc: bool,
+    s: &[u8],
+    second: usize,
+    p: Printed,
+) -> Printed
+    requires { ⌜ second ≡ suc (lineEnd (now s) 0) ⌝ }
     ensures { λ r. ⌜ SaysIn records texts p r (flatten (map (oneLine doc) (unpadded false (rows (now (s .entry)) 0)))) ⌝ }
 {
-    let n = common_length(s, row(s, 0), next_row(s, 0));
+    let n = common_length(s, row(s, 0, second), second);
     print_rows(records, texts, doc, s, 0, n, p)
 }
 
 // The lines of a comment that begins beside its opening: the first as it is, the others without their common padding.
-fn print_beside(records: &mut [u32], texts: &mut [u8], doc: bool, s: &[u8], p: Printed) -> Printed
+fn print_beside(
+    records: &mut [u32],
+    texts: &mut [u8],
+    doc: bool,
+    s: &[u8],
+    second: usize,
+    p: Printed,
+) -> Printed
+    requires { ⌜ second ≡ suc (lineEnd (now s) 0) ⌝ }
     ensures { λ r. ⌜ SaysIn records texts p r (flatten (map (oneLine doc) (unpadded true (rows (now (s .entry)) 0)))) ⌝ }
 {
-    let second = next_row(s, 0);
-    let a = print_row(records, texts, doc, row(s, 0), p);
+    let a = print_row(records, texts, doc, row(s, 0, second), p);
     if s.len() < second {
         return a;
     }
-    let n = common_length(s, row(s, second), next_row(s, second));
+    let third = next_row(s, second);
+    let n = common_length(s, row(s, second, third), third);
     print_rows(records, texts, doc, s, second, n, a)
 }
 
-// A comment over many lines, or a doc comment.
+// A comment over many lines, or a doc comment, with its second line at `second`.
 fn print_many(
     records: &mut [u32],
     texts: &mut [u8],
     doc: bool,
     immediate: bool,
     s: &[u8],
+    second: usize,
     p: Printed,
 ) -> Printed
+    requires { ⌜ second ≡ suc (lineEnd (now s) 0) ⌝ }
     ensures { λ r. ⌜ SaysIn records texts p r (manyLines doc (unpadded immediate (rows (now (s .entry)) 0))) ⌝ }
 {
     let a = items::print_text(records, texts, b"/*", p);
     let b = print_doc(records, texts, doc, b"*", a);
     let c = items::print_signal(records, texts, Signal::NewLine, b);
-    let d = print_between(records, texts, doc, immediate, s, c);
+    let d = print_between(records, texts, doc, immediate, s, second, c);
     let e = print_doc(records, texts, doc, b" ", d);
     let f = items::print_text(records, texts, b"*/", e);
     items::print_signal(records, texts, Signal::NewLine, f)
@@ -142,14 +162,16 @@ fn print_between(
     doc: bool,
     immediate: bool,
     s: &[u8],
+    second: usize,
     p: Printed,
 ) -> Printed
+    requires { ⌜ second ≡ suc (lineEnd (now s) 0) ⌝ }
     ensures { λ r. ⌜ SaysIn records texts p r (flatten (map (oneLine doc) (unpadded immediate (rows (now (s .entry)) 0)))) ⌝ }
 {
     if immediate {
-        print_beside(records, texts, doc, s, p)
+        print_beside(records, texts, doc, s, second, p)
     } else {
-        print_below(records, texts, doc, s, p)
+        print_below(records, texts, doc, s, second, p)
     }
 }
 
@@ -170,25 +192,27 @@ fn print_one(
     print_end(records, texts, loc, d)
 }
 
-// A comment with these lines, of which the first and the last are not empty.
+// A comment with these lines, of which the first and the last are not empty and the second begins at `second`.
 fn print_block(
     records: &mut [u32],
     texts: &mut [u8],
     doc: bool,
     immediate: bool,
     s: &[u8],
+    second: usize,
     loc: CommentLocation,
     p: Printed,
 ) -> Printed
+    requires { ⌜ second ≡ suc (lineEnd (now s) 0) ⌝ }
     ensures { λ r. ⌜ SaysIn records texts p r (blockOf doc immediate (rows (now (s .entry)) 0) (place loc)) ⌝ }
 {
     if doc {
-        return print_many(records, texts, doc, immediate, s, p);
+        return print_many(records, texts, doc, immediate, s, second, p);
     }
-    if s.len() < next_row(s, 0) {
-        return print_one(records, texts, row(s, 0), loc, p);
+    if s.len() < second {
+        return print_one(records, texts, row(s, 0, second), loc, p);
     }
-    print_many(records, texts, doc, immediate, s, p)
+    print_many(records, texts, doc, immediate, s, second, p)
 }
 
 // What stands between the opening and the end of a comment.
@@ -225,7 +249,18 @@ pub fn print_multi_line(
         return p;
     }
     let first = first_row(rest);
-    print_block(records, texts, doc, first == 0, behind(rest, first), loc, p)
+    let start = first.start;
+    let second = first.next - start;
+    print_block(
+        records,
+        texts,
+        doc,
+        start == 0,
+        behind(rest, start),
+        second,
+        loc,
+        p,
+    )
 }
 
 // Whether a multi-line comment has no text, and so prints nothing.

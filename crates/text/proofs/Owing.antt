@@ -118,18 +118,46 @@ module _ (o : Owed) (n lo hi b : ℕ) (e : o ≡ Tails n lo hi) (z : n ≡ 0 →
   pub after-tail : lo ≤ b → b ≤ hi → owedOf (Tails (n - 1) 0x80 0xbf) ≡ afterByte (owedOf o) b
   after-tail l g = rw (after-go n refl z, le-leb lo b l, le-leb b hi g)
 
+-- ASCII
+
+-- The bytes from `at` up to i are ASCII: the text from i on is as valid as from `at` on.
+pub record Passing (s : List ℕ) (at i : ℕ) : Type 0 where
+  pub from : at ≤ i
+  pub upto : i ≤ length s
+  pub same : valid (drop i s) ≡ valid (drop at s)
+
+pub passing-none : (s : List ℕ) (at i : ℕ) → at ≤ length s → i ≡ at → Passing s at i
+passing-none s at i h e = record { from = omega arith; upto = omega arith; same = rw e }
+
+pub passing-more : {s : List ℕ} {at i : ℕ} → Passing s at i → i < length s → getD s i 0 < 0x80 → Passing s at (i + 1)
+unfolding validFrom afterByte owedOf tailsFrom
+passing-more {s} {at} {i} p h a =
+    let f = ap (λ (o : Option (List Range)). validFrom o (drop (suc i) s)) (led-ascii (getD s i 0) a) in
+    record { from = omega (arith, p); upto = omega arith; same = rw (add-one i) (f ∙ (rw (drop-cons s i 0 h) at (p .same))) }
+
 -- The text is as valid as its rest is after what is owed.
 pub record Validating (s : List ℕ) (o : Owed) (i : ℕ) : Type 0 where
   pub within-s : i ≤ length s
   pub rest : validFrom (owedOf o) (drop i s) ≡ valid s
 
-pub validating-none : (s : List ℕ) (o : Owed) → o ≡ Tails 0 0x80 0xbf → Validating s o 0
+pub validating-none : (s : List ℕ) (o : Owed) (i : ℕ) → o ≡ Tails 0 0x80 0xbf → i ≤ length s → valid (drop i s) ≡ valid (drop 0 s) → Validating s o i
 unfolding owedOf tailsFrom
-validating-none s o e = record { within-s = omega arith; rest = rw e }
+validating-none s o i e h p = record { within-s = h; rest = rw e p }
 
 pub validating-more : {s : List ℕ} {o r : Owed} {i : ℕ} → Validating s o i → i < length s → owedOf r ≡ afterByte (owedOf o) (getD s i 0) → Validating s r (i + 1)
 unfolding validFrom
 validating-more {s} {o} {r} {i} v h e = record { within-s = omega arith; rest = rw (e, add-one i) (rw (drop-cons s i 0 h) at (v .rest)) }
+
+settled : (o : Option (List Range)) → nothingOwed o ≡ true → o ≡ some []
+settled none h = absurd (false≢true h)
+settled (some []) h = refl
+settled (some (r ∷ rs)) h = absurd (false≢true h)
+
+-- between characters ASCII is passed
+pub validating-on : {s : List ℕ} {o : Owed} {i : ℕ} (t : Bool) (j : ℕ) → Validating s o i → t ≡ nothingOwed (owedOf o) → t ≡ true → j ≤ length s → valid (drop j s) ≡ valid (drop i s) → Validating s o j
+validating-on {s} {o} {i} t j v e y h p =
+    let k : owedOf o ≡ some [] = settled (owedOf o) (sym e ∙ y) in
+    record { within-s = h; rest = rw k (p ∙ (rw k at (v .rest))) }
 
 pub validating-all : {s : List ℕ} {o : Owed} {i : ℕ} (t : Bool) → Validating s o i → length s ≤ i → t ≡ nothingOwed (owedOf o) → t ≡ valid s
 unfolding validFrom

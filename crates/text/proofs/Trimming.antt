@@ -7,7 +7,7 @@ use native.Mathlib.Omega.{arith}
 use lib.Dec.{eqb}
 use lib.ListN.{length, take, drop, getD, drop-of-length-le, take-append-drop, length-drop}
 use lib.Seq.{take-all, take-length, take-add, drop-drop, drop-cons}
-use borrow.Author.Tests.{eqb-true, eqb-false, not-true, not-false}
+use borrow.Author.Tests.{eqb-true, eqb-false, lt-leb, not-true, not-false}
 use Rattle.text.specs.Basic.{all, dropWhile, dropEnd}
 use Rattle.text.specs.Text.{continues, chars, isWhite, trimEnd, trim}
 use Rattle.text.proofs.Ends.{dropEnd-white, dropEnd-stop}
@@ -129,6 +129,22 @@ trimming-stop {s} {e} {j} t q u h n = record {
   upto = q .upto;
   kept = u .last ∙ sym (dropEnd-stop isWhite (chars (take j s)) (take (e - j) (drop j s)) (sym h ∙ not-true t n)) ∙ ap (dropEnd isWhite) (sym (u .last)) ∙ q .same;
 }
+
+-- an ASCII byte at the end is a character by itself
+module _ {s : List ℕ} {e j : ℕ} (t : Bool) (q : Trimming s e) (p : 0 < e) (d : j ≡ e - 1) (a : getD s j 0 < 0x80) (h : t ≡ isWhite (getD s j 0 ∷ [])) where
+  ascii-upto : CharUpTo s e j
+  ascii-upto = back-stop false (back-none s e j p (q .upto) d) (rw (lt-leb 0x80 (getD s j 0) a)) refl
+
+  ascii-white : t ≡ isWhite (take (e - j) (drop j s))
+  ascii-white =
+      let n : e - j ≡ 1 = omega arith in
+      rw (n, drop-cons s j 0 (omega (arith, q))) h
+
+  pub trimming-byte : not t ≡ false → Trimming s j
+  trimming-byte n = trimming-more t q ascii-upto ascii-white n
+
+  pub trimming-byte-stop : not t ≡ true → TrimmedEnd s e
+  trimming-byte-stop n = trimming-stop t q ascii-upto ascii-white n
 
 pub trimming-all : {s : List ℕ} {e : ℕ} → Trimming s e → e ≤ 0 → TrimmedEnd s e
 unfolding chars dropEnd

@@ -1,4 +1,5 @@
 // Byte classes: what a single byte is in UTF-8, in padding and as white space.
+// A table is laid out anew by each call that reads it, so padding and white space, which are ASCII, are found by comparing.
 ghost use mathlib.Core.Path.{_≡_};
 ghost use mathlib.Core.List.{[], _∷_};
 ghost use Rattle.text.specs.Text.{leadLength, classOf, isPad, isWhite};
@@ -276,15 +277,26 @@ pub fn lead_length(b: u8) -> u8
     class_of(b) % 8
 }
 
+// The characters of ASCII from tab to carriage return are white space.
+const TAB: u8 = 9;
+
+const VERTICAL_TAB: u8 = 11;
+
+const CARRIAGE_RETURN: u8 = 13;
+
+const SPACE: u8 = 32;
+
+const STAR: u8 = 42;
+
 pub fn is_padding(b: u8) -> bool
     ensures { λ r. ⌜ r ≡ isPad b ⌝ }
 {
-    class_of(b) / 8 % 2 == 1
+    ((TAB <= b) & (b <= CARRIAGE_RETURN) & (b != VERTICAL_TAB)) | (b == SPACE) | (b == STAR)
 }
 
 // White space of one byte.
 pub fn is_white_byte(b: u8) -> bool
     ensures { λ r. ⌜ r ≡ isWhite (b ∷ []) ⌝ }
 {
-    class_of(b) / 16 == 1
+    ((TAB <= b) & (b <= CARRIAGE_RETURN)) | (b == SPACE)
 }

@@ -1,11 +1,13 @@
 // Valid UTF-8, RFC 3629.
 use crate::class::lead_length;
 ghost use mathlib.Core.Path.{_≡_};
+ghost use Prim.Native.Nat.{_≤_};
+ghost use lib.ListN.{length, drop};
 ghost use Rattle.text.specs.Text.{follows, afterByte, nothingOwed, valid};
 ghost use Rattle.text.specs.Owed.{lowestTail, highestTail, owedOf};
 
 // The range of a tail byte.
-const TAIL_LOW: u8 = 0x80;
+pub const TAIL_LOW: u8 = 0x80;
 
 const TAIL_HIGH: u8 = 0xbf;
 
@@ -96,7 +98,24 @@ fn owes_nothing(o: Owed) -> bool
     }
 }
 
-// The text is valid UTF-8.
+// Where the ASCII bytes from `at` on end, each a character by itself.
+fn ascii_end(s: &[u8], at: usize) -> usize
+    requires { ⌜ at ≤ length (now s) ⌝ }
+    ensures from { λ r. ⌜ at ≤ r ⌝ }
+    ensures upto { λ r. ⌜ r ≤ length (now (s .entry)) ⌝ }
+    ensures same { λ r. ⌜ valid (drop r (now (s .entry))) ≡ valid (drop at (now (s .entry))) ⌝ }
+{
+    let mut i = at;
+    while i < s.len() {
+        if TAIL_LOW <= s[i] {
+            return i;
+        }
+        i += 1;
+    }
+    i
+}
+
+// The text is valid UTF-8. Between characters ASCII is passed at once.
 pub fn is_utf8(s: &[u8]) -> bool
     ensures { λ r. ⌜ r ≡ valid (now (s .entry)) ⌝ }
 {
@@ -105,10 +124,13 @@ pub fn is_utf8(s: &[u8]) -> bool
         low: TAIL_LOW,
         high: TAIL_HIGH,
     };
-    let mut i = 0;
+    let mut i = ascii_end(s, 0);
     while i < s.len() {
         o = after_byte(o, s[i]);
         i += 1;
+        if owes_nothing(o) {
+            i = ascii_end(s, i);
+        }
     }
     owes_nothing(o)
 }

@@ -1,5 +1,6 @@
 // White space, by characters: Unicode's White_Space.
 use crate::class::is_white_byte;
+use crate::utf8::TAIL_LOW;
 ghost use mathlib.Core.Path.{_≡_};
 ghost use mathlib.Core.List.{[], _∷_};
 ghost use Prim.Native.Nat.{_<_, _≤_};
@@ -84,17 +85,26 @@ fn char_start(s: &[u8], e: usize) -> usize
     j
 }
 
-// Where the text without the white space at its end ends.
+// Where the text without the white space at its end ends. An ASCII byte at the end is a character by itself.
 fn trimmed_end(s: &[u8]) -> usize
     ensures { λ r. ⌜ TrimmedEnd (now (s .entry)) r ⌝ }
 {
     let mut e = s.len();
     while 0 < e {
-        let j = char_start(s, e);
-        if !is_white(&s[j..e]) {
-            return e;
+        let last = e - 1;
+        let b = s[last];
+        if b < TAIL_LOW {
+            if !is_white_byte(b) {
+                return e;
+            }
+            e = last;
+        } else {
+            let j = char_start(s, e);
+            if !is_white(&s[j..e]) {
+                return e;
+            }
+            e = j;
         }
-        e = j;
     }
     e
 }
