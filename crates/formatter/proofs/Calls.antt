@@ -1,27 +1,22 @@
 -- The answer of each way through the code, from what its callees give.
 use mathlib.Core.Path.{_≡_, refl, sym, ap, _∙_}
-use mathlib.Core.Bool.{Bool, true, false, cond, _&&_, false≢true}
+use mathlib.Core.Bool.{Bool, true, false, cond, not, _&&_, false≢true}
 use mathlib.Core.Option.{Option, none, some}
-use mathlib.Core.List.{List, [], _∷_}
-use Prim.Native.Nat.{ℕ, _+_, _*_, _/_, _<_, _≤_}
+use mathlib.Core.List.{List}
+use Prim.Native.Nat.{ℕ, _+_, _*_, _-_, _/_, _<_, _≤_}
 use native.Mathlib.Omega.{arith}
 use native.Mathlib.Nat.{zero-add}
-use lib.Dec.{ltb}
+use lib.Dec.{leb, ltb}
 use lib.ListN.{length, drop, length-append}
-use borrow.Author.Tests.{lt-ltb, le-ltb, ltb-false}
-use mathlib.Core.Logic.{⊎-elim}
-use denote.Enum.Declared.{tagOf}
-use types.Run.{OneOf}
+use borrow.Author.Tests.{lt-ltb, le-ltb, ltb-false, leb-true, not-true}
+use Rattle.text.proofs.Lists.{and-true}
 use Rattle.items.specs.Item.{Item, ok}
-use Rattle.items.specs.Role.{runsOf}
+use Rattle.items.specs.Role.{runsOf, marksOf}
 use Rattle.items.specs.Lines.{recordLines}
 use Rattle.items.specs.Records.{words, bytes, Counts, countsOf, overlaid, decoded, recordSize}
-use Rattle.items.specs.Machine.{State, reached, seen, held, Prints, noCounts}
-use Rattle.items.specs.declared.Printed.{Printed as Run}
-use Rattle.items.specs.declared.Printed.the-variants.{Done, Stopped, Full}
-use Rattle.items.proofs.Printed.{the-type}
+use Rattle.items.specs.Machine.{allFit, countedAll, Puts, noCounts}
 use Rattle.items.proofs.Decoding.{decoded-is, words-length}
-use Rattle.items.proofs.Fits.{Fits, run-fitting, from-start, store-overlaid, written, itemsOf}
+use Rattle.items.proofs.Fits.{Fits, fits-start, store-overlaid}
 use Rattle.numbers.specs.Refusal.{numberOf}
 use Rattle.numbers.specs.declared.refusal.Reason.{Reason}
 use Rattle.numbers.specs.declared.refusal.Reason.the-variants.{RecordsTooShort, TextsTooShort, ListingTooShort}
@@ -29,13 +24,11 @@ use Rattle.tree.specs.Tree.{countN, countB, treeOf}
 use Rattle.tree.specs.Refusal.{Refusal, refusal}
 use Rattle.tree.specs.Answer as tree
 use Rattle.tree.specs.declared.Tested.{Tested}
-use Rattle.tree.specs.declared.Tested.the-variants.{Accepted}
-use Rattle.tree.proofs.Accepted.{accepted, passing}
+use Rattle.tree.proofs.Accepted.{accepted}
 use Rattle.listing.specs.Listing.{headLine, listing}
 use Rattle.listing.specs.Writes.{page, Writes}
 use Rattle.listing.specs.Listable.{Listable, itemsIn}
 use Rattle.listing.proofs.Listable.{items-are, listable}
-use Rattle.plan.specs.Plays.{plays}
 use Rattle.printer.specs.Print.{sourceFile}
 use Rattle.formatter.specs.declared.serve.Room.{Room}
 use Rattle.formatter.specs.declared.serve.Room.the-variants.{Enough, Short}
@@ -44,7 +37,8 @@ use Rattle.formatter.specs.Answered.{Answered}
 use Rattle.formatter.specs.declared.ListAnswer.{ListAnswer}
 use Rattle.formatter.specs.declared.ListAnswer.the-variants.{Listed, Refused as Unlisted}
 use Rattle.formatter.specs.Reply.{replyListed, replyTo}
-use Rattle.formatter.specs.Calls.{asked, Served, Sized, Ready, plannedAt, Whole, Halts, Wrote, shortage}
+use Rattle.formatter.specs.Calls.{asked, Served, mostRecords, Sized, Ready, plannedAt, Whole, Halts, Ample, shortage}
+use Rattle.formatter.proofs.Counted.{records-bound, texts-bound}
 use Rattle.formatter.proofs.Fitted.{items-fit}
 use Rattle.formatter.proofs.Answering.{answered}
 
@@ -109,6 +103,11 @@ module _ (image rs ts ls : List ℕ) (xs : List Item) (v : verdict image ≡ pri
       go false true = refl
       go false false = refl
 
+  -- where buffers have room for records and texts and no listing is asked for, the items are printed
+  rules-room : recordSize * length xs ≤ length rs → length (bytes xs) ≤ length ts → ruling image rs ts none ≡ printed xs
+  unfolding ruling withRoom withListing
+  rules-room h k = rw (v, le-ltb (length rs) (recordSize * length xs) h, le-ltb (length ts) (length (bytes xs)) k) refl
+
   -- where there is none, the buffers have room
   roomy : (listed : Bool) → short listed ≡ Enough → (recordSize * length xs ≤ length rs) × (length (bytes xs) ≤ length ts) × (listed ≡ true → length (listing xs) ≤ length ls)
   unfolding shortage
@@ -149,16 +148,23 @@ module _ (c : Counts) (n w r size : ℕ) (listed : Bool) where
 
 -- ---- sizes of arrays
 
--- the sum that picks the arrays
-pub accepted-by : (image : List ℕ) {t : Tested} {n b : ℕ} → t ≡ Accepted n b → tree.said t ≡ tree.answer image → (refusal image ≡ none) × (24 * n + 4 * b ≡ 24 * countN image + 4 * countB image)
-accepted-by image {t} {n} {b} i h = let p = passing image n b (ap tree.said (sym i) ∙ h) in (p .unrefused, rw (p .elements, p .bytes) refl)
+-- no image prints more
+pub most-small : (image : List ℕ) → refusal image ≡ none → mostRecords image ≤ 226304
+most-small image p = let a = accepted image p in omega (arith, a .few-elements, a .few-bytes)
 
-pub sized-by : {image : List ℕ} {m n : ℕ} → (refusal image ≡ none) × (m ≡ 24 * countN image + 4 * countB image) → m < n → Sized image n
-sized-by (p, e) h = record { passed = p; few = omega (arith, h, e) }
+pub sized-by : {image : List ℕ} {m n : ℕ} → refusal image ≡ none → m ≡ mostRecords image → m < n → Sized image n
+sized-by p e h = record { passed = p; few = omega (arith, h, e) }
 
 -- the largest serve every image
-pub sized-most : {image : List ℕ} {m : ℕ} → (refusal image ≡ none) × (m ≡ 24 * countN image + 4 * countB image) → Sized image 226305
-sized-most {image} (p, e) = let a = accepted image p in record { passed = p; few = omega (arith, a .few-elements, a .few-bytes) }
+pub sized-most : {image : List ℕ} → refusal image ≡ none → Sized image 226305
+sized-most {image} p = record { passed = p; few = omega (arith, most-small image p) }
+
+-- buffers that are ample
+pub ample-by : {image : List ℕ} {m w r : ℕ} → m ≡ mostRecords image → Ample image w r (leb (recordSize * m) w && leb (39 * m) r)
+ample-by {image} {m} {w} {r} e = record {
+  records = λ h. rw (← e) (leb-true _ _ (and-true (leb (recordSize * m) w) _ h .0));
+  texts = λ h. rw (← e) (leb-true _ _ (and-true (leb (recordSize * m) w) _ h .1));
+}
 
 -- an eighth of the operations, and three more, are room for the index
 pub sized-ready : {image table ops : List ℕ} {n : ℕ} → Sized image n → n ≤ length ops → n / 8 + 3 ≤ length table → Ready image table ops
@@ -174,39 +180,25 @@ whole-verdict : {image index ops : List ℕ} {n : ℕ} → Whole image index ops
 unfolding verdict fromTests fromPrinting
 whole-verdict w = rw (w .passed, w .prints)
 
--- what is seen of a writer's answer, where it came to its end
-seen-reached : (rs ts : List ℕ) (p : Run) (σ : State) (k : ℕ) → seen rs ts p ≡ reached σ k → (rs ≡ σ .records) × (ts ≡ σ .texts) × (p ≡ Done (σ .count))
-unfolding seen
-seen-reached rs ts (Done d) σ k h =
-    let s : _≡_ {A = State} (record { records = rs; texts = ts; count = d }) σ = cc in
-    (ap (λ σ. σ .records) s, ap (λ σ. σ .texts) s, ap (λ σ. Done (σ .count)) s)
-seen-reached rs ts (Stopped e) σ k h = absurd (let z : _≡_ {A = ℕ} 0 1 = cc in omega arith)
-seen-reached rs ts Full σ k h = absurd (let z : _≡_ {A = ℕ} 0 1 = cc in omega arith)
+-- what is written from the start fits
+pub plan-fits : {image index ops : List ℕ} {n : ℕ} → Whole image index ops n → allFit (plannedAt image index ops n) noCounts ≡ true
+plan-fits w = fits-start _ (whole-fits w)
 
-module _ {image index ops : List ℕ} {n : ℕ} {rs ts rs′ ts′ : List ℕ} {p r : Run} (w : Whole image index ops n) (s : p ≡ Done noCounts) (h : Prints (plays (plannedAt image index ops n)) (held rs ts p) (held rs′ ts′ r)) where
-  abbrev xs : List Item
-  xs = plannedAt image index ops n
+counted-start : (xs : List Item) → countedAll xs noCounts ≡ countsOf xs
+counted-start xs = rw (zero-add (length xs), zero-add (length (bytes xs)), zero-add (runsOf xs), zero-add (marksOf xs), zero-add (length (recordLines 0 xs))) refl
 
-  ends : (rs′ ≡ written rs ts xs .records) × (ts′ ≡ written rs ts xs .texts) × (r ≡ Done (countsOf xs))
-  unfolding plays
-  ends = seen-reached rs′ ts′ r (written rs ts xs) _ (from-start s h ∙ run-fitting (plays xs) xs _ rs ts refl (whole-fits w))
+-- counts of what is written into any buffer
+pub counted : {xs : List Item} {rs ts rs′ ts′ : List ℕ} {c : Counts} → Puts xs rs ts noCounts rs′ ts′ c → c ≡ countsOf xs
+counted {xs} p = p .counts ∙ counted-start xs
 
-  -- a writer comes to its end
-  pub wrote : {c : Counts} → r ≡ Done c → Wrote xs rs ts rs′ ts′ c
-  wrote i = let (a, b, d) = ends in record { records = a; texts = b; counts = cc }
+-- ---- room for all that an image may print
 
-  -- no answer comes from another end
-  pub wrote-never : {A : Type 0} → OneOf (1 ∷ 2 ∷ []) (tagOf the-type r) → A
-  wrote-never o = absurd (go r o (ends .2))
-    where
-      go : (r : Run) → OneOf (1 ∷ 2 ∷ []) (tagOf the-type r) → r ≡ Done (countsOf xs) → ⊥
-      go (Done c) o h = ⊎-elim (λ w. omega arith) (λ w. omega arith) o
-      go (Stopped e) o h = let z : _≡_ {A = ℕ} 0 1 = cc in omega arith
-      go Full o h = let z : _≡_ {A = ℕ} 0 1 = cc in omega arith
+module _ {image index ops : List ℕ} {n : ℕ} (w : Whole image index ops n) where
+  few-records : length (plannedAt image index ops n) ≤ mostRecords image
+  few-records = rw (w .prints) at (records-bound (accepted image (w .passed)))
 
--- counts of what is written into no buffer
-pub counted : {xs : List Item} {rs ts : List ℕ} {c d : Counts} → d ≡ c → Wrote xs [] [] rs ts c → d ≡ countsOf xs
-counted e w = e ∙ w .counts
+  few-texts : length (bytes (plannedAt image index ops n)) ≤ 39 * mostRecords image
+  few-texts = omega (arith, few-records, rw (w .prints) at (texts-bound (accepted image (w .passed))))
 
 -- ---- what both calls answer
 
@@ -226,7 +218,7 @@ module _ {image index ops : List ℕ} {m : ℕ} (rs ts ls : List ℕ) (listed : 
   pub lacking : {r : Reason} → f ≡ Short r → Served image rs ts ls listed rs ts ls (refused (numberOf r) 0)
   lacking i = turned image rs ts ls listed _ 0 (rules image rs ts ls ys (whole-verdict w) listed ∙ ap (left ys) (sym lacks ∙ i))
 
-  module _ (i : f ≡ Enough) {rs′ ts′ : List ℕ} {d : Counts} (x : Wrote ys rs ts rs′ ts′ d) where
+  module _ (i : f ≡ Enough) {rs′ ts′ : List ℕ} {d : Counts} (x : Puts ys rs ts noCounts rs′ ts′ d) where
     fitting : (recordSize * length ys ≤ length rs) × (length (bytes ys) ≤ length ts) × (listed ≡ true → length (listing ys) ≤ length ls)
     fitting = roomy image rs ts ls ys (whole-verdict w) listed (sym lacks ∙ i)
 
@@ -260,6 +252,26 @@ module _ {image index ops : List ℕ} {m : ℕ} (rs ts ls : List ℕ) (listed : 
       texts = rw ruled laid-texts;
       listing = rw (j, rw j at ruled) (rw (items-are rs′ ts′ (c .records) ys decodes) at (o .stored) ∙ store-overlaid (listing ys) ls (fitting .2 j));
     }
+
+-- where there is room for all that an image may print
+module _ {image index ops : List ℕ} {m : ℕ} {rs ts : List ℕ} (ls : List ℕ) {b : Bool} (a : Bool) {rs′ ts′ : List ℕ} {c : Counts} (w : Whole image index ops m) (p : Ample image (length rs) (length ts) b) (q : (not a && b) ≡ true) (x : Puts (plannedAt image index ops m) rs ts noCounts rs′ ts′ c) where
+  abbrev zs : List Item
+  zs = plannedAt image index ops m
+
+  pub prints-ample : (n : ℕ) → Served image rs ts ls a rs′ ts′ ls (done c (cond a (some n) none))
+  unfolding answer answerOf recordsAfter textsAfter bufferOf
+  prints-ample n =
+      let (u, v) = and-true (not a) b q in
+      let e : a ≡ false = not-true a u in
+      let k : recordSize * length zs ≤ length rs = omega (arith, few-records w, p .records v) in
+      let l : length (bytes zs) ≤ length ts = omega (arith, few-texts w, p .texts v) in
+      let r = rules-room image rs ts ls zs (whole-verdict w) k l in
+      rw e (record {
+        answers = rw (r, counted x) refl;
+        records = rw r (x .records ∙ store-overlaid (words 0 zs) rs (rw (words-length 0 zs) k));
+        texts = rw r (x .texts ∙ store-overlaid (bytes zs) ts l);
+        listing = refl;
+      })
 
 -- ---- the entries
 

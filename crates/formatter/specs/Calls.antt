@@ -11,8 +11,7 @@ use Rattle.numbers.specs.declared.Element.{Element}
 use Rattle.numbers.specs.declared.refusal.Reason.the-variants.{RecordsTooShort, TextsTooShort, ListingTooShort}
 use Rattle.items.specs.Item.{Item, stop, ok}
 use Rattle.items.specs.Role.{runsOf}
-use Rattle.items.specs.Records.{words, bytes, Counts, countsOf, recordSize}
-use Rattle.items.specs.Machine.{store}
+use Rattle.items.specs.Records.{Counts, recordSize}
 use Rattle.tree.specs.Tree.{countN, countB, treeOf}
 use Rattle.tree.specs.Refusal.{refusal}
 use Rattle.tree.specs.Index.{indexSize}
@@ -73,16 +72,20 @@ ServedIn image records texts listing listed r =
 
 -- ---- plans
 
+-- 'at most 24 records for each element plus 4 for each byte of text'
+abbrev pub mostRecords : List ℕ → ℕ
+mostRecords image = 24 * countN image + 4 * countB image
+
 -- An image that passed the tests 1 to 9 and has fewer records than n at most.
 pub record Sized (image : List ℕ) (n : ℕ) : Type 0 where
   pub passed : refusal image ≡ none
-  pub few : 24 * countN image + 4 * countB image < n
+  pub few : mostRecords image < n
 
 -- A table has room for the index of an image that passed, and an array for its plan.
 pub record Ready (image table ops : List ℕ) : Type 0 where
   pub passed : refusal image ≡ none
   pub tabled : indexSize image ≤ length table
-  pub planned : 24 * countN image + 4 * countB image < length ops
+  pub planned : mostRecords image < length ops
 
 -- the items of the first n operations
 abbrev pub plannedAt : List ℕ → List ℕ → List ℕ → ℕ → List Item
@@ -108,15 +111,10 @@ pub record Foresees (image index ops : List ℕ) (o : Outlook) : Type 0 where
   pub stops : (e : Element) → o ≡ Stops e → Halts image (e .0)
   pub prints : (n : ℕ) → o ≡ Prints n → Whole image index ops n
 
--- Items written from the start of two buffers, as far as there is room, and counted.
-pub record Wrote (xs : List Item) (rs ts rs′ ts′ : List ℕ) (c : Counts) : Type 0 where
-  pub records : rs′ ≡ store rs 0 (words 0 xs)
-  pub texts : ts′ ≡ store ts 0 (bytes xs)
-  pub counts : c ≡ countsOf xs
-
--- the same of what is lent
-abbrev pub WroteIn : Lent → Lent → Counts → List Item → Type 0
-WroteIn records texts c xs = Wrote xs (records .entry .now) (texts .entry .now) (records .exit .now) (texts .exit .now) c
+-- Buffers of so many words and bytes have room for what an image prints, where r says so.
+pub record Ample (image : List ℕ) (words room : ℕ) (r : Bool) : Type 0 where
+  pub records : r ≡ true → recordSize * mostRecords image ≤ words
+  pub texts : r ≡ true → 39 * mostRecords image ≤ room
 
 -- 11, 12 and 13 by the counts and the bytes of the listing, for buffers of so many words and bytes
 unfoldable pub shortage : Counts → ℕ → ℕ → ℕ → ℕ → Bool → Room

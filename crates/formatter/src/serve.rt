@@ -1,7 +1,6 @@
 // What both calls do: tests, plan, room, and then records, texts and the listing, if one is asked for.
 use crate::ListAnswer;
 use items::Count;
-use items::Printed;
 use items::RECORD;
 use listing::listing_length;
 use listing::write_listing;
@@ -16,14 +15,13 @@ use plan::write::write_ops;
 use printer::plan_source;
 use tree::Tested;
 use tree::access::ENTRY;
+use tree::byte_count;
+use tree::element_count;
 ghost use mathlib.Core.Path.{_≡_};
 ghost use mathlib.Core.Option.{none};
-ghost use Prim.Native.Nat.{_+_, _*_};
 ghost use Rattle.items.specs.Records.{countsOf};
-ghost use Rattle.items.specs.Machine.{noCounts};
-ghost use Rattle.tree.specs.Tree.{countN, countB};
 ghost use Rattle.tree.specs.Refusal.{refusal};
-ghost use Rattle.formatter.specs.Calls.{ServedIn, Sized, Ready, Foresees, Whole, plannedIn, WroteIn, shortage};
+ghost use Rattle.formatter.specs.Calls.{ServedIn, mostRecords, Sized, Ready, Foresees, Whole, plannedIn, Ample, shortage};
 
 // How many operations an array holds. The sum of 24 for each element and 4 for each byte picks one: a small image pays for
 // no clearing of a large one.
@@ -39,6 +37,9 @@ const LARGEST: usize = 226_305;
 const EACH_ELEMENT: usize = 24;
 
 const EACH_BYTE: usize = 4;
+
+// Bytes of text for each record, at most.
+const EACH_RECORD: usize = 39;
 
 // An index has three numbers for each element, an eighth of the records.
 const ELEMENT_ROOM: usize = EACH_ELEMENT / ENTRY;
@@ -68,26 +69,34 @@ pub fn serve(
     let t = tree::refusal(image);
     match t {
         Tested::Refused(r) => ListAnswer::Refused(r),
-        Tested::Accepted { elements, bytes } => {
-            let most = EACH_ELEMENT * (elements as usize) + EACH_BYTE * (bytes as usize);
-            serve_accepted(image, most, records, texts, listing, listed)
-        }
+        Tested::Accepted {
+            elements: _,
+            bytes: _,
+        } => serve_accepted(image, records, texts, listing, listed),
     }
 }
 
-// The same of an image that passed the tests 1 to 9 and prints at most so many records.
+// How many records an image prints at most.
+fn most_records(image: &[u8]) -> usize
+    ensures { λ r. ⌜ r ≡ mostRecords (now (image .entry)) ⌝ }
+{
+    let elements = element_count(image) as usize;
+    let bytes = byte_count(image) as usize;
+    EACH_ELEMENT * elements + EACH_BYTE * bytes
+}
+
+// The same of an image that passed the tests 1 to 9.
 fn serve_accepted(
     image: &[u8],
-    most: usize,
     records: &mut [u32],
     texts: &mut [u8],
     listing: &mut [u8],
     listed: bool,
 ) -> ListAnswer
     requires { ⌜ refusal (now image) ≡ none ⌝ }
-    requires { ⌜ most ≡ 24 * countN (now image) + 4 * countB (now image) ⌝ }
     ensures { λ r. ⌜ ServedIn image records texts listing listed r ⌝ }
 {
+    let most = most_records(image);
     if most < SMALL {
         return serve_small(image, records, texts, listing, listed);
     }
@@ -217,6 +226,13 @@ fn serve_planned(
     requires { ⌜ Whole (now image) (now index) (now ops) n ⌝ }
     ensures { λ r. ⌜ ServedIn image records texts listing listed r ⌝ }
 {
+    if !listed & is_ample(image, records.len(), texts.len()) {
+        let c = write_ops(records, texts, image, index, ops, n);
+        return ListAnswer::Listed {
+            counts: c,
+            bytes: 0,
+        };
+    }
     let c = count_plan(image, index, ops, n);
     let bytes = listing_length(c);
     let size = listing.len();
@@ -224,11 +240,20 @@ fn serve_planned(
     if let Room::Short(reason) = f {
         return ListAnswer::Refused(whole(reason));
     }
-    write_plan(records, texts, image, index, ops, n);
+    write_ops(records, texts, image, index, ops, n);
     if listed {
         write_listing(records, texts, c, listing);
     }
     ListAnswer::Listed { counts: c, bytes }
+}
+
+// Whether buffers of so many words and bytes have room for all that an image may print: then nothing is counted first.
+fn is_ample(image: &[u8], words: usize, room: usize) -> bool
+    requires { ⌜ refusal (now image) ≡ none ⌝ }
+    ensures { λ r. ⌜ Ample (now (image .entry)) words room r ⌝ }
+{
+    let most = most_records(image);
+    (RECORD * most <= words) & (EACH_RECORD * most <= room)
 }
 
 // The counts of what a plan prints, by writing it into no buffer.
@@ -238,39 +263,7 @@ fn count_plan(image: &[u8], index: &[u32], ops: &[u32], n: usize) -> Count
 {
     let mut records = [0u32; 0];
     let mut texts = [0u8; 0];
-    write_plan(&mut records, &mut texts, image, index, ops, n)
-}
-
-// Writes the records and texts of a plan, as far as there is room, and counts them.
-fn write_plan(
-    records: &mut [u32],
-    texts: &mut [u8],
-    image: &[u8],
-    index: &[u32],
-    ops: &[u32],
-    n: usize,
-) -> Count
-    requires { ⌜ Whole (now image) (now index) (now ops) n ⌝ }
-    ensures { λ r. ⌜ WroteIn records texts r (plannedIn image index ops n) ⌝ }
-{
-    let p = write_ops(records, texts, image, index, ops, n, items::start());
-    let Printed::Done(c) = p else {
-        return no_counts();
-    };
-    c
-}
-
-// No counts. The items of a whole plan always fit 32 bits: no answer has these.
-fn no_counts() -> Count
-    ensures { λ r. ⌜ r ≡ noCounts ⌝ }
-{
-    Count {
-        records: 0,
-        texts: 0,
-        runs: 0,
-        marks: 0,
-        lines: 0,
-    }
+    write_ops(&mut records, &mut texts, image, index, ops, n)
 }
 
 // Whether buffers of so many words and bytes have room for what was counted, and one of so many bytes for its listing.

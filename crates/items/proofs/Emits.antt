@@ -1,9 +1,13 @@
 -- What a function that emits one item shows.
-use mathlib.Core.Path.{_≡_, refl, _∙_}
+use mathlib.Core.Path.{_≡_, refl, sym, _∙_}
 use mathlib.Core.Bool.{Bool, true, false, cond}
 use mathlib.Core.Option.{none, some}
-use mathlib.Core.List.{List, [], _∷_}
-use Prim.Native.Nat.{ℕ, _+_}
+use mathlib.Core.List.{List, [], _∷_, append-nil}
+use Prim.Native.Nat.{ℕ, zero, suc, _+_, _≤_}
+use lib.Dec.{eqb}
+use borrow.Author.Tests.{eqb-true, eqb-false}
+use Rattle.text.specs.Basic.{sum}
+use Rattle.text.proofs.Lists.{and-true}
 use mathlib.Core.Logic.{⊎-elim}
 use native.Mathlib.Omega.{arith}
 use native.Mathlib.Nat.{add-zero}
@@ -19,13 +23,16 @@ use Rattle.numbers.specs.declared.Mark.{Mark}
 use Rattle.items.specs.declared.Printed.{Printed}
 use Rattle.items.specs.declared.Printed.the-variants.{Done, Stopped, Full}
 use Rattle.items.specs.declared.Signal.{Signal}
-use Rattle.items.specs.Item.{Item, text, mark, runEnd, again, ifTest, ok, Print, say, runAt, run as item, signal, conditionTest, signalKind}
-use Rattle.items.specs.Role.{role, isRun}
-use Rattle.items.specs.Records.{bytesOf}
-use Rattle.items.specs.Machine.{State, store, counted, printable, emitted, emitAll, onward, reaching, finish, run, seen, held, Prints}
+use Rattle.items.specs.Item.{Item, text, mark, runEnd, again, ifTest, ok, Print, say, runAt, plainItem, run as item, signal, conditionTest, signalKind}
+use Rattle.items.specs.Role.{role, isRun, isMark}
+use Rattle.items.specs.Records.{bytesOf, words, bytes}
+use Rattle.items.specs.Machine.{State, store, allFit, Puts, counted, printable, emitted, emitAll, onward, reaching, finish, run, seen, held, Prints}
 use Rattle.items.proofs.Lengths.{line-length}
 use Rattle.items.proofs.Laws.{Ended, stops, fills}
-use Rattle.items.specs.Entry.{entryOf, plainEntry, storeEntry, advanced, continued, Emitted}
+use Rattle.items.specs.Entry.{entryOf, plainEntry, storeEntry, lineOf, grownBy, grownWith, InRange, advanced, continued, Emitted}
+use Rattle.items.specs.Lines.{recordLine, recordLines}
+use Rattle.items.specs.Names.{hasNumber}
+use Rattle.items.proofs.Numbers.{in-range-of}
 use Rattle.items.proofs.Printed.{the-type}
 
 -- the other arm of a `let Printed::Done(c) = p else`
@@ -104,14 +111,14 @@ said x e₀ e rs ts rs′ p r m t h l =
     (λ c _. record { entry = h ∙ t .entry (c .texts); prints = rw (t .runs, add-zero (c .runs)); bytes = rw (t .bytes) }) m l refl
 
 pub said-text :
-    (s rs ts rs′ ts′ : List ℕ) (p r : Printed) (c : Count) → p ≡ Done c → ts′ ≡ store ts (c .texts) s
-    → Emitted (record { kind = 1; first = c .texts; second = length s; bytes = length s; runs = 0; marks = 0 }) rs (Done c) rs′ r
+    (s rs ts rs′ ts′ : List ℕ) (p r : Printed) (c : Count) (e : Entry) → p ≡ Done c → ts′ ≡ store ts (c .texts) s
+    → e ≡ record { kind = 1; first = c .texts; second = length s; bytes = length s; runs = 0; marks = 0 } → Emitted e rs (Done c) rs′ r
     → length rs′ ≡ length rs → length ts′ ≡ length ts → Prints (say (text s)) (held rs ts p) (held rs′ ts′ r)
 unfolding say
-said-text s rs ts rs′ ts′ p r c h b m l₁ l₂ =
+said-text s rs ts rs′ ts′ p r c e h b g m l₁ l₂ =
     rw h
-    (shown (say (text s)) (text s) _ rs ts rs′ ts′ (Done c) r
-    (λ c′ h′. let q : c ≡ c′ = cc in record { entry = rw q; prints = rw (add-zero (c′ .runs)); bytes = rw q at b }) m l₁ l₂)
+    (shown (say (text s)) (text s) e rs ts rs′ ts′ (Done c) r
+    (λ c′ h′. let q : c ≡ c′ = cc in record { entry = g ∙ rw q refl; prints = rw (add-zero (c′ .runs)); bytes = rw q at b }) m l₁ l₂)
 
 pub opened :
     (rs ts rs′ : List ℕ) (p r : Printed) (n : ℕ) → Emitted (record { kind = 12; first = n; second = 0; bytes = 0; runs = 1; marks = 0 }) rs p rs′ r
@@ -143,3 +150,87 @@ always-entry t h = rw h
 
 pub lines-entry : (t : Condition) (m : Mark) → t ≡ Lines m → plainEntry 15 1 (m .0) ≡ entryOf 0 (ifTest (conditionTest t))
 lines-entry t m h = rw h
+
+-- ---- items without a text by their kinds
+
+-- What holds of an item without a text by its kind holds of every such kind but the last.
+plain-kinds : (P : ℕ → Type 0) → P 2 → P 3 → P 4 → P 5 → P 6 → P 7 → P 8 → P 9 → P 10 → P 11 → P 12 → P 13 → P 14 → P 15 → P 16 → P 17 → (k : ℕ) → 2 ≤ k → k ≤ 17 → P k
+plain-kinds P p2 p3 p4 p5 p6 p7 p8 p9 p10 p11 p12 p13 p14 p15 p16 p17 zero h l = absurd (omega arith)
+plain-kinds P p2 p3 p4 p5 p6 p7 p8 p9 p10 p11 p12 p13 p14 p15 p16 p17 (suc zero) h l = absurd (omega arith)
+plain-kinds P p2 p3 p4 p5 p6 p7 p8 p9 p10 p11 p12 p13 p14 p15 p16 p17 (suc (suc zero)) h l = p2
+plain-kinds P p2 p3 p4 p5 p6 p7 p8 p9 p10 p11 p12 p13 p14 p15 p16 p17 (suc (suc (suc zero))) h l = p3
+plain-kinds P p2 p3 p4 p5 p6 p7 p8 p9 p10 p11 p12 p13 p14 p15 p16 p17 (suc (suc (suc (suc zero)))) h l = p4
+plain-kinds P p2 p3 p4 p5 p6 p7 p8 p9 p10 p11 p12 p13 p14 p15 p16 p17 (suc (suc (suc (suc (suc zero))))) h l = p5
+plain-kinds P p2 p3 p4 p5 p6 p7 p8 p9 p10 p11 p12 p13 p14 p15 p16 p17 (suc (suc (suc (suc (suc (suc zero)))))) h l = p6
+plain-kinds P p2 p3 p4 p5 p6 p7 p8 p9 p10 p11 p12 p13 p14 p15 p16 p17 (suc (suc (suc (suc (suc (suc (suc zero))))))) h l = p7
+plain-kinds P p2 p3 p4 p5 p6 p7 p8 p9 p10 p11 p12 p13 p14 p15 p16 p17 (suc (suc (suc (suc (suc (suc (suc (suc zero)))))))) h l = p8
+plain-kinds P p2 p3 p4 p5 p6 p7 p8 p9 p10 p11 p12 p13 p14 p15 p16 p17 (suc (suc (suc (suc (suc (suc (suc (suc (suc zero))))))))) h l = p9
+plain-kinds P p2 p3 p4 p5 p6 p7 p8 p9 p10 p11 p12 p13 p14 p15 p16 p17 (suc (suc (suc (suc (suc (suc (suc (suc (suc (suc zero)))))))))) h l = p10
+plain-kinds P p2 p3 p4 p5 p6 p7 p8 p9 p10 p11 p12 p13 p14 p15 p16 p17 (suc (suc (suc (suc (suc (suc (suc (suc (suc (suc (suc zero))))))))))) h l = p11
+plain-kinds P p2 p3 p4 p5 p6 p7 p8 p9 p10 p11 p12 p13 p14 p15 p16 p17 (suc (suc (suc (suc (suc (suc (suc (suc (suc (suc (suc (suc zero)))))))))))) h l = p12
+plain-kinds P p2 p3 p4 p5 p6 p7 p8 p9 p10 p11 p12 p13 p14 p15 p16 p17 (suc (suc (suc (suc (suc (suc (suc (suc (suc (suc (suc (suc (suc zero))))))))))))) h l = p13
+plain-kinds P p2 p3 p4 p5 p6 p7 p8 p9 p10 p11 p12 p13 p14 p15 p16 p17 (suc (suc (suc (suc (suc (suc (suc (suc (suc (suc (suc (suc (suc (suc zero)))))))))))))) h l = p14
+plain-kinds P p2 p3 p4 p5 p6 p7 p8 p9 p10 p11 p12 p13 p14 p15 p16 p17 (suc (suc (suc (suc (suc (suc (suc (suc (suc (suc (suc (suc (suc (suc (suc zero))))))))))))))) h l = p15
+plain-kinds P p2 p3 p4 p5 p6 p7 p8 p9 p10 p11 p12 p13 p14 p15 p16 p17 (suc (suc (suc (suc (suc (suc (suc (suc (suc (suc (suc (suc (suc (suc (suc (suc zero)))))))))))))))) h l = p16
+plain-kinds P p2 p3 p4 p5 p6 p7 p8 p9 p10 p11 p12 p13 p14 p15 p16 p17 (suc (suc (suc (suc (suc (suc (suc (suc (suc (suc (suc (suc (suc (suc (suc (suc (suc zero))))))))))))))))) h l = p17
+plain-kinds P p2 p3 p4 p5 p6 p7 p8 p9 p10 p11 p12 p13 p14 p15 p16 p17 (suc (suc (suc (suc (suc (suc (suc (suc (suc (suc (suc (suc (suc (suc (suc (suc (suc (suc k)))))))))))))))))) h l = absurd (omega arith)
+
+-- an item's record by its kind and its number
+pub plain-entry : (k n : ℕ) → 2 ≤ k → k ≤ 18 → (k ≡ 18 → ⊥) → {b : Bool} {f r m : ℕ} → b ≡ hasNumber k → f ≡ cond b n 0 → r ≡ cond (eqb k 12) 1 0 → m ≡ cond (eqb k 7) 1 0
+    → record { kind = k; first = f; second = 0; bytes = 0; runs = r; marks = m } ≡ entryOf 0 (plainItem k n)
+unfolding plainItem
+plain-entry k n h l q d e i j =
+    rw (e, d, i, j)
+    (plain-kinds (λ k. record { kind = k; first = cond (hasNumber k) n 0; second = 0; bytes = 0; runs = cond (eqb k 12) 1 0; marks = cond (eqb k 7) 1 0 } ≡ entryOf 0 (plainItem k n))
+    refl refl refl refl refl refl refl refl refl refl refl refl refl refl refl refl k h (omega (arith, l, q)))
+
+pub lines-plain : (k n : ℕ) → k ≡ 18 → plainEntry 15 1 n ≡ entryOf 0 (plainItem k n)
+unfolding plainItem
+lines-plain k n h = rw h refl
+
+-- an item without a text has no text, whatever stands before it
+plain-bare : (k n : ℕ) → (at : ℕ) → 2 ≤ k → k ≤ 18 → (entryOf at (plainItem k n) ≡ entryOf 0 (plainItem k n)) × (bytesOf (plainItem k n) ≡ [])
+unfolding plainItem
+plain-bare k n at h l = go (eqb k 18) refl
+  where
+    Bare : ℕ → Type 0
+    Bare k = (entryOf at (plainItem k n) ≡ entryOf 0 (plainItem k n)) × (bytesOf (plainItem k n) ≡ [])
+
+    go : (b : Bool) → eqb k 18 ≡ b → (entryOf at (plainItem k n) ≡ entryOf 0 (plainItem k n)) × (bytesOf (plainItem k n) ≡ [])
+    go true e = rw (eqb-true k 18 e) (refl, refl)
+    go false e = plain-kinds Bare (refl, refl) (refl, refl) (refl, refl) (refl, refl) (refl, refl) (refl, refl) (refl, refl) (refl, refl) (refl, refl) (refl, refl) (refl, refl) (refl, refl) (refl, refl) (refl, refl) (refl, refl) (refl, refl) k h (omega (arith, l, eqb-false k 18 e))
+
+-- ---- items that are put where their numbers fit
+
+as-entry : {c : Count} {e f : Entry} → e ≡ f → InRange (lineOf f c) f c → InRange (lineOf e c) e c
+as-entry i h = rw i h
+
+-- by the length of its line as the code has it
+pub in-line : {e : Entry} {c : Count} {n : ℕ} → n ≡ lineOf e c → InRange (lineOf e c) e c → InRange n e c
+in-line i h = rw i h
+
+pub out-line : (e : Entry) (c : Count) (rs : List ℕ) {rs′ : List ℕ} {d : Count} {n : ℕ} → n ≡ lineOf e c → (d ≡ grownWith n e c) × (rs′ ≡ storeEntry e c rs) → (d ≡ grownBy e c) × (rs′ ≡ storeEntry e c rs)
+out-line e c rs i (h, k) = (rw i at h, k)
+
+-- an item's numbers are in range where they fit
+pub one-fits : (x : Item) (c : Count) → allFit (x ∷ []) c ≡ true → InRange (lineOf (entryOf (c .texts) x) c) (entryOf (c .texts) x) c
+unfolding allFit
+one-fits x c h = in-range-of (entryOf (c .texts) x) c (rw (← (line-length (c .records) (c .texts) x)) at (and-true (printable c x) true h .0))
+
+-- its record stands behind the others
+pub one-put : (x : Item) {rs ts rs′ ts′ : List ℕ} {c d : Count} {e : Entry} → e ≡ entryOf (c .texts) x → d ≡ grownBy e c → rs′ ≡ storeEntry e c rs → ts′ ≡ store ts (c .texts) (bytesOf x) → Puts (x ∷ []) rs ts c rs′ ts′ d
+unfolding words bytes recordLines sum
+one-put x {rs} {ts} {c = c} i j k l =
+    record {
+      records = k ∙ rw i refl;
+      texts = l ∙ rw (append-nil (bytesOf x)) refl;
+      counts = j ∙ rw (i, append-nil (bytesOf x), append-nil (recordLine (c .records) x), ← (line-length (c .records) (c .texts) x), add-zero (isRun (role x)), add-zero (isMark (role x))) refl;
+    }
+
+-- one without a text
+pub plain-put : (k n : ℕ) → 2 ≤ k → k ≤ 18 → {rs ts rs′ : List ℕ} {c d : Count} {e : Entry} → e ≡ entryOf 0 (plainItem k n) → d ≡ grownBy e c → rs′ ≡ storeEntry e c rs → Puts (plainItem k n ∷ []) rs ts c rs′ ts d
+unfolding store
+plain-put k n h l {ts = ts} {c = c} i j m = let (a, b) = plain-bare k n (c .texts) h l in one-put (plainItem k n) (i ∙ sym a) j m (rw b refl)
+
+pub plain-fits : (k n : ℕ) → 2 ≤ k → k ≤ 18 → {c : Count} {e : Entry} → e ≡ entryOf 0 (plainItem k n) → allFit (plainItem k n ∷ []) c ≡ true → InRange (lineOf e c) e c
+plain-fits k n h l {c} i f = as-entry (i ∙ sym (plain-bare k n (c .texts) h l .0)) (one-fits (plainItem k n) c f)

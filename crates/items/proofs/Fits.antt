@@ -2,22 +2,24 @@
 use mathlib.Core.Path.{_≡_, refl, sym, ap, _∙_}
 use mathlib.Core.Bool.{Bool, true, false, cond, _&&_}
 use mathlib.Core.Option.{Option, none, some}
-use mathlib.Core.List.{List, [], _∷_, _++_}
+use mathlib.Core.List.{List, [], _∷_, _++_, append-assoc, append-nil}
 use Prim.Native.Nat.{ℕ, suc, _+_, _*_, _≤_, _<_, _^_}
 use native.Mathlib.Omega.{arith}
 use native.Mathlib.Nat.{add-zero, zero-add}
 use native.Mathlib.Numerals.{add-one}
 use lib.ListN.{length, set, length-append}
-use lib.Seq.{sets-eq}
+use lib.Seq.{sets-eq, length-sets}
 use borrow.Author.Tests.{lt-ltb}
 use Rattle.text.specs.Basic.{sum, all, All, ∅, _▹_}
 use Rattle.items.specs.declared.Printed.{Printed}
 use Rattle.items.specs.declared.Printed.the-variants.{Done}
-use Rattle.items.specs.Item.{always, lines, Item, signal, text, mark, runEnd, again, ifTest, Out, stop, ok, Print, run as opening}
+use Rattle.items.specs.Item.{always, lines, Item, signal, text, mark, runEnd, again, ifTest, Out, stop, ok, Print, says, run as opening}
 use Rattle.items.specs.Role.{role, isRun, isMark, runsOf, marksOf}
 use Rattle.items.specs.Lines.{recordLine, recordLines}
 use Rattle.items.specs.Records.{recordOf, bytesOf, words, bytes, Counts, countsOf, overlaid, recordSize}
-use Rattle.items.specs.Machine.{State, store, counted, fit, printable, emitted, emitAll, onward, Outcome, halted, reached, halting, reaching, finish, run, seen, Held, held, outcome, Prints, noCounts}
+use Rattle.items.specs.Machine.{State, store, counted, fit, printable, allFit, countedAll, Puts, emitted, emitAll, onward, Outcome, halted, full, reached, halting, reaching, finish, run, seen, Held, held, outcome, Prints, noCounts}
+use Rattle.text.proofs.Lists.{and-true, sum-append}
+use Rattle.items.proofs.Laws.{Ended, stops, fills}
 use Rattle.items.proofs.Decoding.{words-length}
 
 -- before the first item
@@ -56,16 +58,7 @@ store-empty (v ∷ vs) at = store-empty vs (suc at)
 abbrev allEmitted : List Item → State → State
 allEmitted xs σ =
     let c = σ .count in
-    record {
-      records = store (σ .records) (recordSize * c .records) (words (c .texts) xs);
-      texts = store (σ .texts) (c .texts) (bytes xs);
-      count = record { records = c .records + length xs; texts = c .texts + length (bytes xs); runs = c .runs + runsOf xs; marks = c .marks + marksOf xs; lines = c .lines + length (recordLines (c .records) xs) };
-    }
-
--- the numbers of all items fit, from these counts on
-unfoldable allFit : List Item → Counts → Bool
-allFit [] c = true
-allFit (x ∷ xs) c = printable c x && allFit xs (counted c x)
+    record { records = store (σ .records) (recordSize * c .records) (words (c .texts) xs); texts = store (σ .texts) (c .texts) (bytes xs); count = countedAll xs c }
 
 allEmitted-nil : (σ : State) → σ ≡ allEmitted [] σ
 unfolding store words bytes sum recordLines
@@ -169,7 +162,8 @@ run-start p rs ts = go (p 0)
     go (stop xs e) = ap (halting e) (items xs)
     go (ok xs k) = ap (reaching k) (items xs)
 
-fits-start : (xs : List Item) → Fits xs → allFit xs noCounts ≡ true
+-- from the start
+pub fits-start : (xs : List Item) → Fits xs → allFit xs noCounts ≡ true
 fits-start xs f =
     all-fit xs noCounts (f .operands) (rw (zero-add (length xs)) (f .records)) (rw (zero-add (length (bytes xs))) (f .texts))
     (rw (zero-add (runsOf xs)) (f .runs)) (rw (zero-add (marksOf xs)) (f .marks)) (rw (zero-add (length (recordLines 0 xs))) (f .lines))
@@ -214,3 +208,86 @@ run-reached p rs ts σ k h = go (p 0) (sym (run-start p rs ts) ∙ h)
 pub from-start : {q : Print} {rs ts : List ℕ} {p : Printed} {a : Held} → p ≡ Done noCounts → Prints q (held rs ts p) a → outcome a ≡ run q (starting rs ts)
 unfolding seen
 from-start h k = rw h at (k .ran)
+
+-- ---- items put behind others
+
+words-append : (at : ℕ) (xs ys : List Item) → words at (xs ++ ys) ≡ words at xs ++ words (at + length (bytes xs)) ys
+unfolding words bytes
+words-append at [] ys = rw (add-zero at)
+words-append at (x ∷ xs) ys =
+    let e : at + length (bytesOf x) + length (bytes xs) ≡ at + length (bytesOf x ++ bytes xs) = rw (length-append (bytesOf x) (bytes xs)) (omega arith) in
+    rw (words-append (at + length (bytesOf x)) xs ys, e)
+
+pub bytes-append : (xs ys : List Item) → bytes (xs ++ ys) ≡ bytes xs ++ bytes ys
+unfolding bytes
+bytes-append [] ys = refl
+bytes-append (x ∷ xs) ys = rw (bytes-append xs ys, append-assoc (bytesOf x) (bytes xs) (bytes ys))
+
+lines-append : (n : ℕ) (xs ys : List Item) → recordLines n (xs ++ ys) ≡ recordLines n xs ++ recordLines (n + length xs) ys
+unfolding recordLines
+lines-append n [] ys = rw (add-zero n)
+lines-append n (x ∷ xs) ys =
+    let e : suc n + length xs ≡ n + suc (length xs) = omega arith in
+    rw (lines-append (suc n) xs ys, e, append-assoc (recordLine n x) (recordLines (suc n) xs) (recordLines (n + suc (length xs)) ys))
+
+pub counted-append : (xs ys : List Item) (c : Counts) → countedAll ys (countedAll xs c) ≡ countedAll (xs ++ ys) c
+counted-append xs ys c =
+    let a : c .records + length xs + length ys ≡ c .records + length (xs ++ ys) = rw (length-append xs ys) (omega arith) in
+    let b : c .texts + length (bytes xs) + length (bytes ys) ≡ c .texts + length (bytes (xs ++ ys)) = rw (bytes-append xs ys, length-append (bytes xs) (bytes ys)) (omega arith) in
+    let d : c .runs + runsOf xs + runsOf ys ≡ c .runs + runsOf (xs ++ ys) = omega (arith, sum-append (λ x. isRun (role x)) xs ys) in
+    let e : c .marks + marksOf xs + marksOf ys ≡ c .marks + marksOf (xs ++ ys) = omega (arith, sum-append (λ x. isMark (role x)) xs ys) in
+    let f : c .lines + length (recordLines (c .records) xs) + length (recordLines (c .records + length xs) ys) ≡ c .lines + length (recordLines (c .records) (xs ++ ys)) =
+    rw (lines-append (c .records) xs ys, length-append (recordLines (c .records) xs) (recordLines (c .records + length xs) ys)) (omega arith) in
+    rw (a, b, d, e, f)
+
+-- some items, and then others
+pub puts-append : {xs ys : List Item} {rs ts rs′ ts′ rs″ ts″ : List ℕ} {c d e : Counts} → Puts xs rs ts c rs′ ts′ d → Puts ys rs′ ts′ d rs″ ts″ e → Puts (xs ++ ys) rs ts c rs″ ts″ e
+puts-append {xs} {ys} {rs} {ts} {c = c} p q =
+    let n : recordSize * (c .records + length xs) ≡ recordSize * c .records + length (words (c .texts) xs) = rw (words-length (c .texts) xs) (omega arith) in
+    record {
+      records = q .records ∙ rw (p .records, p .counts, n, words-append (c .texts) xs ys) (store-append (words (c .texts) xs) (words (c .texts + length (bytes xs)) ys) rs (recordSize * c .records));
+      texts = q .texts ∙ rw (p .texts, p .counts, bytes-append xs ys) (store-append (bytes xs) (bytes ys) ts (c .texts));
+      counts = q .counts ∙ ap (countedAll ys) (p .counts) ∙ counted-append xs ys c;
+    }
+
+-- buffers keep their lengths
+pub puts-same : {xs : List Item} {rs ts rs′ ts′ : List ℕ} {c d : Counts} → Puts xs rs ts c rs′ ts′ d → (length rs′ ≡ length rs) × (length ts′ ≡ length ts)
+unfolding store
+puts-same {xs} {rs} {ts} {c = c} p = (ap length (p .records) ∙ length-sets rs (recordSize * c .records) (words (c .texts) xs), ap length (p .texts) ∙ length-sets ts (c .texts) (bytes xs))
+
+pub puts-none : (rs ts : List ℕ) (c : Counts) → Puts [] rs ts c rs ts c
+unfolding store words bytes sum recordLines
+puts-none rs ts c = record { records = refl; texts = refl; counts = rw (add-zero (c .records), add-zero (c .texts), add-zero (c .runs), add-zero (c .marks), add-zero (c .lines)) }
+
+-- items that fit behind others
+counted-one : (x : Item) (c : Counts) → counted c x ≡ countedAll (x ∷ []) c
+unfolding bytes sum recordLines
+counted-one x c = rw (append-nil (bytesOf x), append-nil (recordLine (c .records) x), add-zero (isRun (role x)), add-zero (isMark (role x)))
+
+pub fit-append : (xs ys : List Item) (c : Counts) → allFit (xs ++ ys) c ≡ true → (allFit xs c ≡ true) × (allFit ys (countedAll xs c) ≡ true)
+unfolding allFit
+fit-append [] ys c h = (refl, rw (← (puts-none [] [] c .counts)) h)
+fit-append (x ∷ xs) ys c h =
+    let (p, q) = and-true (printable c x) _ h in
+    let (r, s) = fit-append xs ys (counted c x) q in
+    let e : countedAll xs (counted c x) ≡ countedAll (x ∷ xs) c = ap (countedAll xs) (counted-one x c) ∙ counted-append (x ∷ []) xs c in
+    (rw (p, r) refl, sym (ap (allFit ys) e) ∙ s)
+
+-- what a printer of items puts, where their numbers fit
+pub said-puts : (xs : List Item) {rs ts rs′ ts′ : List ℕ} {c : Counts} {p r : Printed} → allFit xs c ≡ true → p ≡ Done c → Prints (says xs) (held rs ts p) (held rs′ ts′ r) → {d : Counts} → r ≡ Done d → Puts xs rs ts c rs′ ts′ d
+unfolding run seen says finish
+said-puts xs {rs} {ts} {rs′} {ts′} {c} f i h {d} j =
+    let σ : State = record { records = rs; texts = ts; count = c } in
+    let τ : State = record { records = rs′; texts = ts′; count = d } in
+    let e : reached τ (d .runs) ≡ reached (allEmitted xs σ) (c .runs) = rw (i, j, all-emitted xs σ, f) at (h .ran) in
+    let z : τ ≡ allEmitted xs σ = cc in
+    record { records = ap (λ σ. σ .records) z; texts = ap (λ σ. σ .texts) z; counts = ap (λ σ. σ .count) z }
+
+-- it comes to its end
+pub said-done : (xs : List Item) {rs ts rs′ ts′ : List ℕ} {c : Counts} {p r : Printed} → allFit xs c ≡ true → p ≡ Done c → Prints (says xs) (held rs ts p) (held rs′ ts′ r) → Ended r → ⊥
+unfolding run seen says finish
+said-done xs {rs} {ts} {rs′} {ts′} {c} f i h n = go n (rw (i, all-emitted xs (record { records = rs; texts = ts; count = c }), f) at (h .ran))
+  where
+    go : {r : Printed} → Ended r → seen rs′ ts′ r ≡ reached (allEmitted xs (record { records = rs; texts = ts; count = c })) (c .runs) → ⊥
+    go (stops e) k = let z : _≡_ {A = ℕ} 0 1 = cc in omega arith
+    go fills k = let z : _≡_ {A = ℕ} 0 1 = cc in omega arith

@@ -1,7 +1,7 @@
 -- Laws that belong to no one function. Those of a `pub mod` are cited by other crates.
 pub mod Decimals
 pub mod Decoding
-mod Emits
+pub mod Emits
 pub mod Fits
 pub mod Laws
 pub mod Lengths

@@ -66,6 +66,10 @@ module _ (e : Entry) (c : Count) where
   ranged : All (λ m. m < 2 ^ 32) (e .first ∷ others) → InRange line e c
   ranged (f ▹ s ▹ r ▹ t ▹ k ▹ m ▹ l ▹ ∅) = record { first = f; second = s; records = r; texts = t; runs = k; marks = m; lines = l }
 
+  -- where its numbers fit, an entry is in range
+  pub in-range-of : fit (e .first ∷ others) ≡ true → InRange line e c
+  in-range-of h = ranged (fits-below _ h)
+
   -- the largest of what an entry brings, and of the counts after it
   abbrev brought : ℕ
   brought = max (e .bytes) (max (e .first) (e .second))
@@ -113,7 +117,7 @@ module _ (e : Entry) (c : Count) where
           go false p k = let z : _≡_ {A = ℕ} 0 1 = cc in absurd (omega arith)
 
       pub in-range : InRange l e c
-      in-range = rw (fitted .0) (ranged (fits-below _ (fitted .1)))
+      in-range = rw (fitted .0) (in-range-of (fitted .1))
 
       pub goes-on : (d : Count) → d ≡ grownWith l e c → Done d ≡ advanced e c
       unfolding advanced

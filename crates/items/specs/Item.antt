@@ -1,8 +1,9 @@
 -- Print items, and printing as a function of the next list's number.
-use mathlib.Core.Bool.{Bool, true, false}
+use mathlib.Core.Bool.{Bool, true, false, cond}
 use mathlib.Core.List.{List, [], _∷_, _++_}
 use Prim.Native.Nat.{ℕ, suc}
 use Prim.Native.String.{String}
+use lib.Dec.{eqb}
 use Rattle.text.specs.Basic.{ascii}
 use Rattle.items.specs.declared.Condition.{Condition}
 use Rattle.items.specs.declared.Condition.the-variants.{Always, Lines}
@@ -74,6 +75,32 @@ elseItem = signal Else
 
 abbrev pub endIf : Item
 endIf = signal EndIf
+
+-- the signal with a kind
+abbrev pub signalOf : ℕ → Signal
+signalOf k =
+    cond (eqb k 2) NewLine
+    (cond (eqb k 3) SpaceOrNewLine
+    (cond (eqb k 4) Tab
+    (cond (eqb k 5) StartIndent
+    (cond (eqb k 6) FinishIndent
+    (cond (eqb k 8) StartGroup
+    (cond (eqb k 9) FinishGroup
+    (cond (eqb k 10) StartBlock
+    (cond (eqb k 11) FinishBlock
+    (cond (eqb k 16) Else
+    EndIf)))))))))
+
+-- an item without a text by its kind and its number: 2 to 17 as the kinds of records, 15 where a condition always holds, 18 a condition on lines
+unfoldable pub plainItem : ℕ → ℕ → Item
+plainItem k n =
+    cond (eqb k 7) (mark n)
+    (cond (eqb k 12) (run n)
+    (cond (eqb k 13) (runEnd n)
+    (cond (eqb k 14) (again n)
+    (cond (eqb k 15) (ifTest always)
+    (cond (eqb k 18) (ifTest (lines n))
+    (signal (signalOf k)))))))
 
 -- What a printing gives: the items until it stops and the element at which the Rust stops, or all items and the next list's number.
 pub data Out : Type 0 where

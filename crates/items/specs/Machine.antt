@@ -1,6 +1,6 @@
 -- The effect of items on the lent buffers and the counts, and the contract of every printer.
 use mathlib.Core.Path.{_≡_}
-use mathlib.Core.Bool.{Bool, cond}
+use mathlib.Core.Bool.{Bool, true, cond, _&&_}
 use mathlib.Core.Option.{Option, none, some}
 use mathlib.Core.List.{List, [], _∷_}
 use Prim.Native.Nat.{ℕ, _+_, _*_, _^_}
@@ -12,9 +12,9 @@ use Rattle.text.specs.Lent.{Lent}
 use Rattle.items.specs.declared.Printed.{Printed}
 use Rattle.items.specs.declared.Printed.the-variants.{Done, Stopped, Full}
 use Rattle.items.specs.Item.{Item, Out, stop, ok, Print, says}
-use Rattle.items.specs.Role.{role, isRun, isMark}
-use Rattle.items.specs.Lines.{recordLine}
-use Rattle.items.specs.Records.{recordOf, bytesOf, Counts, recordSize}
+use Rattle.items.specs.Role.{role, isRun, isMark, runsOf, marksOf}
+use Rattle.items.specs.Lines.{recordLine, recordLines}
+use Rattle.items.specs.Records.{recordOf, bytesOf, words, bytes, Counts, recordSize}
 
 -- The lent buffers, and the counts of what was printed.
 pub record State : Type 0 where
@@ -75,6 +75,32 @@ onward (some σ) f = f σ
 unfoldable pub emitAll : List Item → State → Option State
 emitAll [] σ = some σ
 emitAll (x ∷ xs) σ = onward (emit1 x σ) (emitAll xs)
+
+-- the numbers of all items fit, from these counts on
+unfoldable pub allFit : List Item → Counts → Bool
+allFit [] c = true
+allFit (x ∷ xs) c = printable c x && allFit xs (counted c x)
+
+-- the counts after all items
+abbrev pub countedAll : List Item → Counts → Counts
+countedAll xs c =
+    record {
+      records = c .records + length xs;
+      texts = c .texts + length (bytes xs);
+      runs = c .runs + runsOf xs;
+      marks = c .marks + marksOf xs;
+      lines = c .lines + length (recordLines (c .records) xs);
+    }
+
+-- Items whose numbers fit, put behind what was printed: their records and texts, as far as there is room, and their counts.
+pub record Puts (xs : List Item) (rs ts : List ℕ) (c : Counts) (rs′ ts′ : List ℕ) (d : Counts) : Type 0 where
+  pub records : rs′ ≡ store rs (recordSize * c .records) (words (c .texts) xs)
+  pub texts : ts′ ≡ store ts (c .texts) (bytes xs)
+  pub counts : d ≡ countedAll xs c
+
+-- the same of what is lent
+abbrev pub PutsIn : Lent → Lent → Counts → Counts → List Item → Type 0
+PutsIn records texts c d xs = Puts xs (records .entry .now) (texts .entry .now) c (records .exit .now) (texts .exit .now) d
 
 -- How far printing has come: stopped at an element, a number no longer fits, or a state and the next list's number.
 pub data Outcome : Type 0 where

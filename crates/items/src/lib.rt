@@ -6,12 +6,13 @@ use numbers::Element;
 use numbers::Mark;
 use numbers::Run;
 ghost use mathlib.Core.Path.{_≡_};
-ghost use mathlib.Core.List.{List};
-ghost use Prim.Native.Nat.{ℕ, max, _+_, _<_, _^_};
+ghost use mathlib.Core.Bool.{true, cond};
+ghost use mathlib.Core.List.{[], _∷_};
+ghost use Prim.Native.Nat.{max, _+_, _<_, _≤_, _^_};
 ghost use lib.ListN.{length, set};
-ghost use Rattle.items.specs.Item.{say, runAt, text, signal, signalKind, conditionTest, mark, runEnd, again, ifTest};
-ghost use Rattle.items.specs.Machine.{PrintsIn, store, storeRecord, noCounts};
-ghost use Rattle.items.specs.Entry.{Emitted, InRange, entryOf, grownWith, plainEntry, roomFor, storeEntry};
+ghost use Rattle.items.specs.Item.{say, runAt, plainItem, text, signal, signalKind, conditionTest, mark, runEnd, again, ifTest};
+ghost use Rattle.items.specs.Machine.{PrintsIn, PutsIn, allFit, store, storeRecord, noCounts};
+ghost use Rattle.items.specs.Entry.{Emitted, InRange, entryOf, lineOf, grownBy, grownWith, plainEntry, roomFor, storeEntry};
 ghost use Rattle.items.specs.declared.Printed.the-variants.{Done};
 
 // What was printed so far: records, bytes of their texts, runs and marks, and bytes of the lines that list the records.
@@ -89,6 +90,9 @@ pub const ELSE: u32 = 16;
 
 pub const END_IF: u32 = 17;
 
+// A condition on lines, where it goes by one number; no record is of this kind.
+pub const IF_LINES: u32 = 18;
+
 // The first operand of a condition.
 const ALWAYS: u64 = 0;
 
@@ -127,6 +131,53 @@ fn plain(kind: u32, first: u64, second: u64) -> Entry
     }
 }
 
+// A text of so many bytes at an offset.
+fn text_entry(at: u32, bytes: usize) -> Entry
+    ensures { λ r. ⌜ r ≡ record { kind = 1; first = at; second = bytes; bytes = bytes; runs = 0; marks = 0 } ⌝ }
+{
+    Entry {
+        kind: TEXT,
+        first: at as u64,
+        second: bytes as u64,
+        bytes: bytes as u64,
+        runs: 0,
+        marks: 0,
+    }
+}
+
+// 1 where it is so.
+fn one_if(b: bool) -> u32
+    ensures { λ r. ⌜ r ≡ cond b 1 0 ⌝ }
+{
+    if b { 1 } else { 0 }
+}
+
+// The number where it is so, else 0.
+fn number_if(b: bool, n: u32) -> u64
+    ensures { λ r. ⌜ r ≡ cond b n 0 ⌝ }
+{
+    if b { n as u64 } else { 0 }
+}
+
+// The record of an item without a text, by its kind and its number.
+fn plain_entry(kind: u32, n: u32) -> Entry
+    requires { ⌜ 2 ≤ kind ⌝ }
+    requires { ⌜ kind ≤ 18 ⌝ }
+    ensures { λ r. ⌜ r ≡ entryOf 0 (plainItem kind n) ⌝ }
+{
+    if kind == IF_LINES {
+        return plain(IF, LINES, n as u64);
+    }
+    Entry {
+        kind: kind,
+        first: number_if(lines::has_number(kind), n),
+        second: 0,
+        bytes: 0,
+        runs: one_if(kind == RUN),
+        marks: one_if(kind == MARK),
+    }
+}
+
 // Stores w at place at, if there is room.
 fn put_word(buf: &mut [u32], at: usize, w: u32)
     ensures { λ _. ⌜ now (buf .exit) ≡ set (now (buf .entry)) at w ⌝ }
@@ -155,11 +206,27 @@ pub fn put_byte(buf: &mut [u8], at: usize, b: u8)
     }
 }
 
+// Stores the bytes of s from place at on, where there is room for all.
+fn copy_bytes(buf: &mut [u8], at: usize, s: &[u8])
+    requires { ⌜ at + length (now s) ≤ length (now buf) ⌝ }
+    ensures { λ _. ⌜ now (buf .exit) ≡ store (now (buf .entry)) at (now (s .entry)) ⌝ }
+{
+    let mut i = 0;
+    while i < s.len() {
+        buf[at + i] = s[i];
+        i += 1;
+    }
+}
+
 // Stores the bytes of s from place at on, as far as there is room.
 pub fn put_bytes(buf: &mut [u8], at: usize, s: &[u8])
     requires { ⌜ at + length (now s) < 2 ^ 64 ⌝ }
     ensures { λ _. ⌜ now (buf .exit) ≡ store (now (buf .entry)) at (now (s .entry)) ⌝ }
 {
+    if at + s.len() <= buf.len() {
+        copy_bytes(buf, at, s);
+        return;
+    }
     let mut i = 0;
     while i < s.len() {
         put_byte(buf, at + i, s[i]);
@@ -248,17 +315,52 @@ fn emit(records: &mut [u32], e: Entry, p: Printed) -> Printed
     Printed::Done(emit_on(records, c, e, line))
 }
 
-// Nothing is printed yet.
-pub fn start() -> Printed
-    ensures { λ r. ⌜ r ≡ Done noCounts ⌝ }
+// Stores a record whose numbers fit, and gives the counts after it.
+fn put_fitting(records: &mut [u32], c: Count, e: Entry) -> Count
+    requires { ⌜ InRange (lineOf e c) e c ⌝ }
+    ensures { λ r. ⌜ (r ≡ grownBy e c) × (now (records .exit) ≡ storeEntry e c (now (records .entry))) ⌝ }
 {
-    Printed::Done(Count {
+    let line = lines::line_length(c.records, e.kind, e.first as u32, e.second as u32);
+    emit_on(records, c, e, line as u32)
+}
+
+// Puts a text, also one of no bytes, behind what was printed. Its numbers must fit.
+pub fn put_text(records: &mut [u32], texts: &mut [u8], s: &[u8], c: Count) -> Count
+    requires { ⌜ allFit (text (now s) ∷ []) c ≡ true ⌝ }
+    ensures { λ r. ⌜ PutsIn records texts c r (text (now (s .entry)) ∷ []) ⌝ }
+{
+    put_bytes(texts, c.texts as usize, s);
+    put_fitting(records, c, text_entry(c.texts, s.len()))
+}
+
+// Puts an item without a text, by its kind and its number. Its numbers must fit.
+pub fn put_plain(records: &mut [u32], texts: &mut [u8], kind: u32, n: u32, c: Count) -> Count
+    requires { ⌜ 2 ≤ kind ⌝ }
+    requires { ⌜ kind ≤ 18 ⌝ }
+    requires { ⌜ allFit (plainItem kind n ∷ []) c ≡ true ⌝ }
+    ensures { λ r. ⌜ PutsIn records texts c r (plainItem kind n ∷ []) ⌝ }
+{
+    put_fitting(records, c, plain_entry(kind, n))
+}
+
+// No counts yet.
+pub fn no_counts() -> Count
+    ensures { λ r. ⌜ r ≡ noCounts ⌝ }
+{
+    Count {
         records: 0,
         texts: 0,
         runs: 0,
         marks: 0,
         lines: 0,
-    })
+    }
+}
+
+// Nothing is printed yet.
+pub fn start() -> Printed
+    ensures { λ r. ⌜ r ≡ Done noCounts ⌝ }
+{
+    Printed::Done(no_counts())
 }
 
 // Prints a text, also one of no bytes.
@@ -269,16 +371,7 @@ pub fn print_text(records: &mut [u32], texts: &mut [u8], s: &[u8], p: Printed) -
         return p;
     };
     put_bytes(texts, c.texts as usize, s);
-    let bytes = s.len() as u64;
-    let e = Entry {
-        kind: TEXT,
-        first: c.texts as u64,
-        second: bytes,
-        bytes: bytes,
-        runs: 0,
-        marks: 0,
-    };
-    emit(records, e, p)
+    emit(records, text_entry(c.texts, s.len()), p)
 }
 
 // The kind of an item without operands.

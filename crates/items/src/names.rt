@@ -79,14 +79,54 @@ fn start_of(t: Table, w: u32) -> usize
     }
 }
 
-// The length of the name with a number; no name has another number.
+// The length of the name of a kind; no name has another number. A match on a number is one look into a table.
+fn kind_length(w: u32) -> u64
+    ensures { λ r. ⌜ r ≡ length (ascii (nameAt Kinds w)) ⌝ }
+{
+    match w {
+        1 => 4,
+        2 => 7,
+        3 => 16,
+        4 => 3,
+        5 => 6,
+        6 => 7,
+        7 => 4,
+        8 => 5,
+        9 => 9,
+        10 => 5,
+        11 => 9,
+        12 => 3,
+        13 => 7,
+        14 => 5,
+        15 => 9,
+        16 => 4,
+        17 => 6,
+        _ => 0,
+    }
+}
+
+// The length of another name.
+fn other_length(w: u32) -> u64
+    ensures { λ r. ⌜ r ≡ length (ascii (nameAt Others w)) ⌝ }
+{
+    match w {
+        0 => 8,
+        1 => 7,
+        2 => 6,
+        3 => 5,
+        4 => 6,
+        _ => 0,
+    }
+}
+
+// The length of the name with a number.
 pub fn name_length(t: Table, w: u32) -> u64
     ensures { λ r. ⌜ r ≡ length (ascii (nameAt t w)) ⌝ }
 {
-    if count_of(t) <= w {
-        return 0;
+    match t {
+        Table::Kinds => kind_length(w),
+        Table::Others => other_length(w),
     }
-    (start_of(t, w + 1) - start_of(t, w)) as u64
 }
 
 // Stores the name of a kind.

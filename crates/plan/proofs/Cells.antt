@@ -18,7 +18,7 @@ use Rattle.items.specs.declared.Signal.the-variants.{NewLine, SpaceOrNewLine, T
 use Rattle.text.specs.Basic.{isNil, sum}
 use Rattle.text.proofs.Lists.{sum-append}
 use Rattle.items.specs.Role.{role, isRun, runsOf}
-use Rattle.items.specs.Item.{lines, Item, Print, mark, runEnd, again, say, says, openRun, stopped, ok, run, ifTest}
+use Rattle.items.specs.Item.{lines, Item, Print, mark, runEnd, again, say, says, openRun, stopped, ok, run, ifTest, plainItem}
 use Rattle.items.specs.Item.{signal, signalKind, conditionTest}
 use Rattle.comments.specs.Comments.{Location, aboveItem, itemInline, endOfItems, comment}
 use Rattle.tree.specs.Index.{kindAt}
@@ -28,7 +28,7 @@ use Rattle.plan.proofs.Laws.{by, blank}
 use Rattle.plan.specs.Plans.{Planned, halted, full, planned, joined, planning, Held, held, status, stoppedAt, count, nextRun, told, seen, itemsIn, Reaches, Adds, Tidy, Kept, Plans}
 use Rattle.plan.specs.Load.{numberIn, load, Carried}
 use Rattle.plan.proofs.Loads.{load-append, length-load, weigh-more}
-use Rattle.plan.proofs.Playing.{comment-still}
+use Rattle.plan.proofs.Still.{comment-still}
 
 -- ---- operations
 
@@ -214,15 +214,15 @@ module _ (s : Source) (v : ℕ) where
   carried-low k l c d = record { far = λ m. absurd (omega arith); calm = c; some = d }
 
   pub carried-word : v < wordCount → Carried s 1 v
-  unfolding expand sum
+  unfolding expand plainItem sum
   carried-word l = carried-low 1 (omega arith) refl (omega arith)
 
   pub carried-always : v < wordCount → Carried s 15 v
-  unfolding expand sum
+  unfolding expand plainItem sum
   carried-always l = carried-low 15 (omega arith) refl (omega arith)
 
   pub carried-signal : (x : Signal) {k : ℕ} → k ≡ signalKind x → v < wordCount → Carried s k v
-  unfolding expand sum
+  unfolding expand plainItem sum
   carried-signal x e l = rw e (let (a, b) = go x in carried-low (signalKind x) (omega arith) a b)
     where
       go : (x : Signal) → (runsOf (expand s (signalKind x) v) ≡ 0) × (1 ≤ length (expand s (signalKind x) v))
@@ -239,28 +239,28 @@ module _ (s : Source) (v : ℕ) where
       go EndIf = (refl, omega arith)
 
   pub carried-token : v < operandLimit → Carried s 0 v
-  unfolding expand sum
+  unfolding expand plainItem sum
   carried-token l = carried-low 0 l refl (omega arith)
 
   pub carried-mark : Carried s 7 v
-  unfolding expand sum
+  unfolding expand plainItem sum
   carried-mark = record { far = λ l. one-far (mark v) l; calm = refl; some = omega arith }
 
   pub carried-end : Carried s 13 v
-  unfolding expand sum
+  unfolding expand plainItem sum
   carried-end = record { far = λ l. one-far (runEnd v) l; calm = refl; some = omega arith }
 
   pub carried-again : Carried s 14 v
-  unfolding expand sum
+  unfolding expand plainItem sum
   carried-again = record { far = λ l. one-far (again v) l; calm = refl; some = omega arith }
 
   pub carried-lines : Carried s 18 v
-  unfolding expand sum
+  unfolding expand plainItem sum
   carried-lines = record { far = λ l. one-far (ifTest (lines v)) l; calm = refl; some = omega arith }
 
   -- a comment with items
   pub carried-note : (l : Location) {k j : ℕ} {t : List ℕ} {b : Bool} → k ≡ noteKind l → v < operandLimit → j ≡ kindAt (s .index) v → t ≡ token s v → b ≡ isNil (comment j t l) → b ≡ false → Carried s k v
-  unfolding expand
+  unfolding expand plainItem
   carried-note l {k} {j} {t} {b} e m f g n z = rw e (go l (some (note s v l) (rw (f, g) at (sym n ∙ z))) (comment-still _ _ l))
     where
       some : (xs : List Item) → isNil xs ≡ false → 1 ≤ length xs
@@ -319,7 +319,7 @@ pub coded-planned : (s : Source) (k v : ℕ) {o a : Held} → k < 32 → Adds s 
 coded-planned s k v l h = rw (coded-items s k v l) at h
 
 pub signal-planned : (s : Source) (x : Signal) (k : ℕ) {o a : Held} → k ≡ signalKind x → Plans s (says (expand s k 0)) o a → Plans s (say (signal x)) o a
-unfolding say says expand
+unfolding say says expand plainItem
 signal-planned s x k e h = by (signal-is x) (rw e at h)
   where
     signal-is : (x : Signal) → say (signal x) ≡ says (expand s (signalKind x) 0)
@@ -336,7 +336,7 @@ signal-planned s x k e h = by (signal-is x) (rw e at h)
     signal-is EndIf = refl
 
 pub note-planned : (s : Source) (l : Location) (k v : ℕ) {o a : Held} → k ≡ noteKind l → Plans s (says (expand s k v)) o a → Plans s (says (note s v l)) o a
-unfolding expand
+unfolding expand plainItem
 note-planned s l k v e h = by (ap says (note-is l)) (rw e at h)
   where
     note-is : (l : Location) → note s v l ≡ expand s (noteKind l) v
@@ -369,16 +369,16 @@ note-below l k e = rw e (go l)
     go endOfItems = omega arith
 
 pub always-planned : (s : Source) (t : Condition) {o a : Held} → t ≡ Always → Plans s (says (expand s 15 0)) o a → Plans s (say (ifTest (conditionTest t))) o a
-unfolding say says expand
+unfolding say says expand plainItem
 always-planned s t e h = rw e h
 
 pub lines-planned : (s : Source) (t : Condition) (m : Mark) {o a : Held} → t ≡ Lines m → Plans s (says (expand s 18 (m .0))) o a → Plans s (say (ifTest (conditionTest t))) o a
-unfolding say says expand
+unfolding say says expand plainItem
 lines-planned s t m e h = rw e h
 
 -- a list's number that has no room
 pub overrun : (s : Source) (ops cells : List ℕ) (k : ℕ) → getD cells 0 0 ≡ 0 → k ≡ getD cells 3 0 → operandLimit ≤ k → Adds s openRun (held ops cells) (held ops (set cells 0 2))
-unfolding expand
+unfolding expand plainItem
 overrun s ops cells k g e l =
     let p = operand-full s ops cells 12 k g l (λ m. one-far (run k) m) in
     let z = filled s ops cells in

@@ -3,7 +3,7 @@ mod Cells
 pub mod Laws
 pub mod Loads
 pub mod Noted
-mod Playing
+mod Still
 mod Texts
 pub mod Whole
 mod Written

@@ -1,14 +1,13 @@
 -- The formatter's own texts, each in its place among all of them.
-use mathlib.Core.Path.{_≡_, refl, ap}
-use mathlib.Core.List.{List}
+use mathlib.Core.Path.{_≡_, refl, sym}
+use mathlib.Core.List.{List, []}
 use Prim.Native.Nat.{ℕ, _+_, _-_, _<_, _≤_}
-use lib.ListN.{length, take, drop}
+use lib.ListN.{length, take, drop, List·getD-eq-default}
+use Rattle.text.specs.Basic.{ascii}
 use borrow.Author.Tests.{eq-eqb, ne-eqb}
 use Rattle.text.specs.Words.{joinedWords, wordStart}
 use Rattle.text.proofs.Words as W
-use Rattle.items.specs.Item.{text, none, say, lit}
-use Rattle.items.specs.Machine.{Held, Prints}
-use Rattle.items.proofs.Laws.{by}
+use Rattle.items.specs.Item.{none, lit}
 use Rattle.plan.specs.Words.{words, wordAt, wordOrNone, wordCount}
 
 -- there are so many
@@ -16,17 +15,20 @@ words-counted : length words ≡ wordCount
 unfolding words
 words-counted = refl
 
-module _ (w : ℕ) {a b : ℕ} (h : w < wordCount) (e : a ≡ wordStart words w) (f : b ≡ wordStart words (w + 1)) where
-  pub start-le : a ≤ b
-  start-le = W.start-le words w (rw words-counted h) e f
+pub start-le : (w : ℕ) {a b : ℕ} → w < wordCount → a ≡ wordStart words w → b ≡ wordStart words (w + 1) → a ≤ b
+start-le w h e f = W.start-le words w (rw words-counted h) e f
 
-  pub end-in : b ≤ length (joinedWords words)
-  end-in = W.end-in words w (rw words-counted h) e f
+module _ (w : ℕ) {all : List ℕ} {a b : ℕ} (g : all ≡ joinedWords words) (h : w < wordCount) (e : a ≡ wordStart words w) (f : b ≡ wordStart words (w + 1)) where
+  pub end-of : b ≤ length all
+  end-of = rw g (W.end-in words w (rw words-counted h) e f)
 
-  -- what is printed from where a text starts to where the next one starts is the text
-  pub word-said : {o r : Held} → Prints (say (text (take (b - a) (drop a (joinedWords words))))) o r → Prints (lit (wordAt w)) o r
-  unfolding lit
-  word-said k = by (ap (λ (s : List ℕ). say (text s)) (W.word-part words w (rw words-counted h) e f)) k
+  -- what stands from where a text starts to where the next one starts is the text
+  pub word-at : take (b - a) (drop a all) ≡ ascii (wordAt w)
+  word-at = rw g (sym (W.word-part words w (rw words-counted h) e f))
+
+-- behind the last one there is none
+pub no-word : (w : ℕ) → wordCount ≤ w → [] ≡ ascii (wordAt w)
+no-word w h = let k : length words ≤ w = rw words-counted h in rw (List·getD-eq-default words "" k) refl
 
 -- number 0 prints nothing
 pub word-none : (w : ℕ) → w ≡ 0 → wordOrNone w ≡ none

@@ -1,116 +1,122 @@
 -- What the writer of a plan shows.
-use mathlib.Core.Path.{_≡_, refl, sym, ap, _∙_}
+use mathlib.Core.Path.{_≡_, refl}
+use mathlib.Core.Bool.{Bool, true, false}
 use mathlib.Core.List.{List, [], _∷_, _++_}
-use mathlib.Core.Bool.{true, false}
-use Prim.Native.Nat.{ℕ, zero, suc, _+_, _<_, _≤_}
+use Prim.Native.Nat.{ℕ, zero, suc, _+_, _%_, _/_, _<_, _≤_}
 use native.Mathlib.Omega.{arith}
 use native.Mathlib.Numerals.{add-one}
-use lib.ListN.{length, getD, List·getD-eq-default}
-use borrow.Author.Tests.{ne-eqb}
+use lib.ListN.{getD}
+use borrow.Author.Tests.{ne-eqb, le-leb, lt-leb, ltb-true, ltb-false}
+use lib.Dec.{ltb}
 use Rattle.text.specs.Basic.{ascii}
-use Rattle.items.specs.declared.Signal.{Signal}
-use Rattle.items.specs.declared.Signal.the-variants.{NewLine, SpaceOrNewLine, Tab, StartIndent, FinishIndent, StartGroup, FinishGroup, StartBlock, FinishBlock, Else, EndIf}
-use Rattle.items.specs.Item.{signal, signalKind}
-use Rattle.items.specs.Item.{always, lines, Item, Print, text, newline, spaceOrNewline, tab, indent, outdent, mark, group, groupEnd, block, blockEnd, runEnd, again, ifTest, elseItem, endIf, say, says, lit, runAt}
-use Rattle.items.specs.Role.{role, isRun}
-use Rattle.items.specs.Machine.{Held, Prints}
-use Rattle.items.proofs.Laws.{by, idle, _▸_}
-use Rattle.comments.specs.Comments.{Location, aboveItem, itemInline, endOfItems, comment}
-use Rattle.tree.specs.Index.{kindAt, textAt}
-use Rattle.plan.specs.Words.{words, wordAt, wordCount}
-use Rattle.plan.specs.Ops.{Source, sourceAt, token, note, expand, opItems, decoded}
-use Rattle.plan.specs.Plays.{plays}
-use Rattle.plan.proofs.Playing.{plays-nil, plays-append, plays-still, plays-one, plays-run, comment-still}
+use Rattle.items.specs.Item.{Item, text, plainItem}
+use Rattle.items.specs.Records.{Counts}
+use Rattle.items.specs.Machine.{allFit, countedAll, Puts, noCounts}
+use Rattle.items.specs.Machine.{held, Prints}
+use Rattle.items.specs.Item.{says}
+use Rattle.items.specs.declared.Printed.{Printed}
+use Rattle.items.specs.declared.Printed.the-variants.{Done}
+use Rattle.items.proofs.Printed.{the-type}
+use Rattle.items.proofs.Emits.{ended}
+use Rattle.items.proofs.Fits.{puts-none, puts-append, fit-append, said-puts, said-done}
+use denote.Enum.Declared.{tagOf}
+use types.Run.{OneOf}
+use Rattle.comments.specs.Comments.{Location, endOfItems, comment}
+use Rattle.tree.specs.Index.{kindAt}
+use Rattle.plan.specs.Words.{wordAt}
+use Rattle.plan.specs.Ops.{Source, token, note, placeBy, expand, opItems, decoded}
 
--- a comment
-pub note-written : (image index : List ℕ) (t : ℕ) (loc : Location) {k : ℕ} {s : List ℕ} {o a : Held} → k ≡ kindAt index t → s ≡ textAt image index t
-    → Prints (says (comment k s loc)) o a → Prints (plays (note (sourceAt image index) t loc)) o a
-note-written index image t loc {k} {s} e f h = by (plays-still _ (comment-still _ _ loc)) (rw (e, f) at h)
+-- ---- an operation by its kind
+
+module _ (s : Source) (op : ℕ) where
+  abbrev kind : ℕ
+  kind = op % 32
+
+  abbrev operand : ℕ
+  operand = op / 32
+
+  pub token-op : kind ≡ 0 → opItems s op ≡ text (token s operand) ∷ []
+  unfolding opItems expand
+  token-op e = rw e refl
+
+  pub word-op : kind ≡ 1 → opItems s op ≡ text (ascii (wordAt operand)) ∷ []
+  unfolding opItems expand
+  word-op e = rw e refl
+
+  pub note-op : 19 ≤ kind → opItems s op ≡ note s operand (placeBy kind)
+  unfolding opItems expand
+  note-op h = rw (ne-eqb kind 0 (λ e. omega (arith, h, e)), ne-eqb kind 1 (λ e. omega (arith, h, e)), le-leb 19 kind h) refl
+
+  pub plain-op : (kind ≡ 0 → ⊥) → (kind ≡ 1 → ⊥) → kind < 19 → opItems s op ≡ plainItem kind operand ∷ []
+  unfolding opItems expand
+  plain-op e f h = rw (ne-eqb kind 0 e, ne-eqb kind 1 f, lt-leb 19 kind h) refl
+
+-- a text by another name
+pub texted : {s t : List ℕ} → s ≡ t → text s ∷ [] ≡ text t ∷ []
+texted e = rw e refl
+
+-- ---- a comment
+
+pub place-at : (j : ℕ) {k : ℕ} → k ≡ j → placeBy j ≡ placeBy k
+place-at j e = rw e refl
+
+pub place-else : (k : ℕ) → (k ≡ 19 → ⊥) → (k ≡ 20 → ⊥) → endOfItems ≡ placeBy k
+place-else k e f = rw (ne-eqb k 19 e, ne-eqb k 20 f) refl
+
+pub noted : (s : Source) (t : ℕ) {l m : Location} → l ≡ m → note s t l ≡ note s t m
+noted s t e = rw e refl
+
+module _ (s : Source) (t : ℕ) (loc : Location) {k : ℕ} {ys : List ℕ} {rs ts rs′ ts′ : List ℕ} {c : Counts} {r : Printed}
+    (i : k ≡ kindAt (s .index) t)
+    (j : ys ≡ token s t)
+    (f : allFit (note s t loc) c ≡ true)
+    (h : Prints (says (comment k ys loc)) (held rs ts (Done c)) (held rs′ ts′ r)) where
+  pub note-puts : {d : Counts} → r ≡ Done d → Puts (note s t loc) rs ts c rs′ ts′ d
+  note-puts e = said-puts (note s t loc) f refl (rw (i, j) at h) e
+
+  -- it comes to its end
+  pub note-never : {A : Type 0} → OneOf (1 ∷ 2 ∷ []) (tagOf the-type r) → A
+  note-never o = absurd (said-done (note s t loc) f refl (rw (i, j) at h) (ended r o))
+
+-- what is put by another name
+pub puts-as : {xs ys : List Item} {rs ts rs′ ts′ : List ℕ} {c d : Counts} → xs ≡ ys → Puts ys rs ts c rs′ ts′ d → Puts xs rs ts c rs′ ts′ d
+puts-as e h = rw e h
+
+pub fits-as : (xs ys : List Item) (c : Counts) → xs ≡ ys → allFit xs c ≡ true → allFit ys c ≡ true
+fits-as xs ys c e h = rw e at h
+
+-- ---- the loop
+
+-- the operation at i fits behind those before it
+fit-at : (s : Source) (ops : List ℕ) (n i : ℕ) → i < n → allFit (decoded s ops n) noCounts ≡ true → allFit (opItems s (getD ops i 0)) (countedAll (decoded s ops i) noCounts) ≡ true
+unfolding decoded
+fit-at s ops zero i h f = absurd (omega arith)
+fit-at s ops (suc n) i h f = go (ltb i n) refl (fit-append (decoded s ops n) (opItems s (getD ops n 0)) noCounts f) (fit-at s ops n i)
+  where
+    go : (b : Bool) → ltb i n ≡ b → (allFit (decoded s ops n) noCounts ≡ true) × (allFit (opItems s (getD ops n 0)) (countedAll (decoded s ops n) noCounts) ≡ true)
+        → (i < n → allFit (decoded s ops n) noCounts ≡ true → allFit (opItems s (getD ops i 0)) (countedAll (decoded s ops i) noCounts) ≡ true)
+        → allFit (opItems s (getD ops i 0)) (countedAll (decoded s ops i) noCounts) ≡ true
+    go true e (p, q) k = k (ltb-true i n e) p
+    go false e (p, q) k = let z : i ≡ n = omega (arith, h, ltb-false i n e) in rw z q
 
 -- The first i operations are written.
-pub record Writing (s : Source) (ops : List ℕ) (n : ℕ) (o a : Held) (i : ℕ) : Type 0 where
+pub record Writing (s : Source) (ops : List ℕ) (n : ℕ) (rs ts rs′ ts′ : List ℕ) (c : Counts) (i : ℕ) : Type 0 where
   pub within : i ≤ n
-  pub so-far : Prints (plays (decoded s ops i)) o a
+  pub fits : allFit (decoded s ops n) noCounts ≡ true
+  pub so-far : Puts (decoded s ops i) rs ts noCounts rs′ ts′ c
 
-pub writing-none : (s : Source) (ops : List ℕ) (n : ℕ) (o : Held) → Writing s ops n o o 0
+pub writing-none : (s : Source) (ops : List ℕ) (n : ℕ) (rs ts : List ℕ) {c : Counts} → c ≡ noCounts → allFit (decoded s ops n) noCounts ≡ true → Writing s ops n rs ts rs ts c 0
 unfolding decoded
-writing-none s ops n o = record { within = omega arith; so-far = by plays-nil idle }
+writing-none s ops n rs ts e f = record { within = omega arith; fits = f; so-far = rw e (puts-none rs ts noCounts) }
 
-pub writing-more : {s : Source} {ops : List ℕ} {n : ℕ} {o a b : Held} {i : ℕ} → Writing s ops n o a i → i < n → Prints (plays (opItems s (getD ops i 0))) a b → Writing s ops n o b (i + 1)
-unfolding decoded
-writing-more {s} {ops} {n} {o} {a} {b} {i} w l h = rw (add-one i) (record { within = omega (arith, l); so-far = by (plays-append (decoded s ops i) (opItems s (getD ops i 0))) (w .so-far ▸ h) })
+module _ {s : Source} {ops : List ℕ} {n : ℕ} {rs ts rs′ ts′ : List ℕ} {c : Counts} {i : ℕ} (w : Writing s ops n rs ts rs′ ts′ c i) where
+  -- the next one fits
+  pub writing-fits : i < n → allFit (opItems s (getD ops i 0)) c ≡ true
+  writing-fits l = rw (w .so-far .counts) (fit-at s ops n i l (w .fits))
 
-pub writing-all : {s : Source} {ops : List ℕ} {n : ℕ} {o a : Held} {i : ℕ} → Writing s ops n o a i → n ≤ i → Prints (plays (decoded s ops n)) o a
-writing-all {s} {ops} {n} {o} {a} {i} w l = let e : n ≡ i = omega (arith, w .within) in rw e (w .so-far)
+  pub writing-more : i < n → {rs″ ts″ : List ℕ} {d : Counts} → Puts (opItems s (getD ops i 0)) rs′ ts′ c rs″ ts″ d → Writing s ops n rs ts rs″ ts″ d (i + 1)
+  unfolding decoded
+  writing-more l h = rw (add-one i) (record { within = omega (arith, l); fits = w .fits; so-far = puts-append (w .so-far) h })
 
--- ---- operations by their kinds
-
-module _ (s : Source) (k v : ℕ) {o a : Held} where
-  pub token-arm : k ≡ 0 → {t : List ℕ} → t ≡ token s v → Prints (say (text t)) o a → Prints (plays (expand s k v)) o a
-  unfolding expand
-  token-arm e f h = rw e (by (plays-one (text (token s v)) refl) (rw f at h))
-
-  pub word-arm : k ≡ 1 → Prints (plays (expand s 1 v)) o a → Prints (plays (expand s k v)) o a
-  word-arm e h = rw e h
-
-  pub mark-arm : k ≡ 7 → Prints (say (mark v)) o a → Prints (plays (expand s k v)) o a
-  unfolding expand
-  mark-arm e h = rw e (by (plays-one (mark v) refl) h)
-
-  pub run-arm : k ≡ 12 → Prints (runAt v) o a → Prints (plays (expand s k v)) o a
-  unfolding expand
-  run-arm e h = rw e (by (plays-run v) h)
-
-  pub end-arm : k ≡ 13 → Prints (say (runEnd v)) o a → Prints (plays (expand s k v)) o a
-  unfolding expand
-  end-arm e h = rw e (by (plays-one (runEnd v) refl) h)
-
-  pub again-arm : k ≡ 14 → Prints (say (again v)) o a → Prints (plays (expand s k v)) o a
-  unfolding expand
-  again-arm e h = rw e (by (plays-one (again v) refl) h)
-
-  pub always-arm : k ≡ 15 → Prints (say (ifTest always)) o a → Prints (plays (expand s k v)) o a
-  unfolding expand
-  always-arm e h = rw e (by (plays-one (ifTest always) refl) h)
-
-  pub lines-arm : k ≡ 18 → Prints (say (ifTest (lines v))) o a → Prints (plays (expand s k v)) o a
-  unfolding expand
-  lines-arm e h = rw e (by (plays-one (ifTest (lines v)) refl) h)
-
-  pub above-arm : k ≡ 19 → Prints (plays (note s v aboveItem)) o a → Prints (plays (expand s k v)) o a
-  unfolding expand
-  above-arm e h = rw e h
-
-  pub inline-arm : k ≡ 20 → Prints (plays (note s v itemInline)) o a → Prints (plays (expand s k v)) o a
-  unfolding expand
-  inline-arm e h = rw e h
-
-  pub ending-arm : (((((((((((((((((((((Unit {0} × (k ≡ 0 → ⊥)) × (k ≡ 1 → ⊥)) × (k ≡ 2 → ⊥)) × (k ≡ 3 → ⊥)) × (k ≡ 4 → ⊥)) × (k ≡ 5 → ⊥)) × (k ≡ 6 → ⊥)) × (k ≡ 7 → ⊥)) × (k ≡ 8 → ⊥)) × (k ≡ 9 → ⊥)) × (k ≡ 10 → ⊥)) × (k ≡ 11 → ⊥)) × (k ≡ 12 → ⊥)) × (k ≡ 13 → ⊥)) × (k ≡ 14 → ⊥)) × (k ≡ 15 → ⊥)) × (k ≡ 16 → ⊥)) × (k ≡ 17 → ⊥)) × (k ≡ 18 → ⊥)) × (k ≡ 19 → ⊥)) × (k ≡ 20 → ⊥)) → Prints (plays (note s v endOfItems)) o a → Prints (plays (expand s k v)) o a
-  unfolding expand
-  ending-arm r h = rw (ne-eqb k 0 (r .0 .0 .0 .0 .0 .0 .0 .0 .0 .0 .0 .0 .0 .0 .0 .0 .0 .0 .0 .0 .1), ne-eqb k 1 (r .0 .0 .0 .0 .0 .0 .0 .0 .0 .0 .0 .0 .0 .0 .0 .0 .0 .0 .0 .1), ne-eqb k 2 (r .0 .0 .0 .0 .0 .0 .0 .0 .0 .0 .0 .0 .0 .0 .0 .0 .0 .0 .1), ne-eqb k 3 (r .0 .0 .0 .0 .0 .0 .0 .0 .0 .0 .0 .0 .0 .0 .0 .0 .0 .1), ne-eqb k 4 (r .0 .0 .0 .0 .0 .0 .0 .0 .0 .0 .0 .0 .0 .0 .0 .0 .1), ne-eqb k 5 (r .0 .0 .0 .0 .0 .0 .0 .0 .0 .0 .0 .0 .0 .0 .0 .1), ne-eqb k 6 (r .0 .0 .0 .0 .0 .0 .0 .0 .0 .0 .0 .0 .0 .0 .1), ne-eqb k 7 (r .0 .0 .0 .0 .0 .0 .0 .0 .0 .0 .0 .0 .0 .1), ne-eqb k 8 (r .0 .0 .0 .0 .0 .0 .0 .0 .0 .0 .0 .0 .1), ne-eqb k 9 (r .0 .0 .0 .0 .0 .0 .0 .0 .0 .0 .0 .1), ne-eqb k 10 (r .0 .0 .0 .0 .0 .0 .0 .0 .0 .0 .1), ne-eqb k 11 (r .0 .0 .0 .0 .0 .0 .0 .0 .0 .1), ne-eqb k 12 (r .0 .0 .0 .0 .0 .0 .0 .0 .1), ne-eqb k 13 (r .0 .0 .0 .0 .0 .0 .0 .1), ne-eqb k 14 (r .0 .0 .0 .0 .0 .0 .1), ne-eqb k 15 (r .0 .0 .0 .0 .0 .1), ne-eqb k 16 (r .0 .0 .0 .0 .1), ne-eqb k 17 (r .0 .0 .0 .1), ne-eqb k 18 (r .0 .0 .1), ne-eqb k 19 (r .0 .1), ne-eqb k 20 (r .1)) h
-
-  pub signal-arm : (x : Signal) → k ≡ signalKind x → Prints (say (signal x)) o a → Prints (plays (expand s k v)) o a
-  unfolding expand
-  signal-arm x e h = rw e (by (go x) h)
-    where
-      go : (x : Signal) → plays (expand s (signalKind x) v) ≡ say (signal x)
-      go NewLine = plays-one newline refl
-      go SpaceOrNewLine = plays-one spaceOrNewline refl
-      go Tab = plays-one tab refl
-      go StartIndent = plays-one indent refl
-      go FinishIndent = plays-one outdent refl
-      go StartGroup = plays-one group refl
-      go FinishGroup = plays-one groupEnd refl
-      go StartBlock = plays-one block refl
-      go FinishBlock = plays-one blockEnd refl
-      go Else = plays-one elseItem refl
-      go EndIf = plays-one endIf refl
-
-module _ (s : Source) (v : ℕ) {o a : Held} where
-  pub known-word : Prints (lit (wordAt v)) o a → Prints (plays (expand s 1 v)) o a
-  unfolding expand lit
-  known-word h = by (plays-one (text (ascii (wordAt v))) refl) h
-
-  pub no-word : wordCount ≤ v → Prints (say (text [])) o a → Prints (plays (expand s 1 v)) o a
-  unfolding expand words
-  no-word l h = rw (List·getD-eq-default words "" l) (by (plays-one (text []) refl) h)
+  pub writing-all : n ≤ i → Puts (decoded s ops n) rs ts noCounts rs′ ts′ c
+  writing-all l = let e : n ≡ i = omega (arith, l, w .within) in rw e (w .so-far)

@@ -3,5 +3,4 @@ pub mod Words
 pub mod Ops
 pub mod Load
 pub mod Plans
-pub mod Plays
 pub mod Comments

@@ -2,10 +2,10 @@
 use mathlib.Core.Bool.{cond}
 use mathlib.Core.List.{List, [], _∷_, _++_}
 use Prim.Native.Nat.{ℕ, zero, suc, _+_, _*_, _/_, _%_}
-use lib.Dec.{eqb}
+use lib.Dec.{leb, eqb}
 use lib.ListN.{getD}
 use Rattle.text.specs.Basic.{ascii}
-use Rattle.items.specs.Item.{always, lines, Item, text, newline, spaceOrNewline, tab, indent, outdent, mark, group, groupEnd, block, blockEnd, run, runEnd, again, ifTest, elseItem, endIf}
+use Rattle.items.specs.Item.{Item, text, plainItem}
 use Rattle.comments.specs.Comments.{Location, aboveItem, itemInline, endOfItems, comment}
 use Rattle.tree.specs.Index.{kindAt, textAt}
 use Rattle.plan.specs.Words.{wordAt}
@@ -26,32 +26,17 @@ token s t = textAt (s .image) (s .index) t
 abbrev pub note : Source → ℕ → Location → List Item
 note s t loc = comment (kindAt (s .index) t) (token s t) loc
 
--- the items of an operation by its kind and operand: 0 a token, 1 a word, 2 to 17 as the kinds of records (15 where the condition
--- always holds), 18 a condition on lines, 19 to 21 a comment by its place
+-- the place of a comment by the kind of its operation
+abbrev pub placeBy : ℕ → Location
+placeBy k = cond (eqb k 19) aboveItem (cond (eqb k 20) itemInline endOfItems)
+
+-- the items of an operation by its kind and operand: 0 a token, 1 a word, 2 to 18 an item without a text, 19 to 21 a comment by its place
 unfoldable pub expand : Source → ℕ → ℕ → List Item
 expand s k v =
     cond (eqb k 0) (text (token s v) ∷ [])
     (cond (eqb k 1) (text (ascii (wordAt v)) ∷ [])
-    (cond (eqb k 2) (newline ∷ [])
-    (cond (eqb k 3) (spaceOrNewline ∷ [])
-    (cond (eqb k 4) (tab ∷ [])
-    (cond (eqb k 5) (indent ∷ [])
-    (cond (eqb k 6) (outdent ∷ [])
-    (cond (eqb k 7) (mark v ∷ [])
-    (cond (eqb k 8) (group ∷ [])
-    (cond (eqb k 9) (groupEnd ∷ [])
-    (cond (eqb k 10) (block ∷ [])
-    (cond (eqb k 11) (blockEnd ∷ [])
-    (cond (eqb k 12) (run v ∷ [])
-    (cond (eqb k 13) (runEnd v ∷ [])
-    (cond (eqb k 14) (again v ∷ [])
-    (cond (eqb k 15) (ifTest always ∷ [])
-    (cond (eqb k 16) (elseItem ∷ [])
-    (cond (eqb k 17) (endIf ∷ [])
-    (cond (eqb k 18) (ifTest (lines v) ∷ [])
-    (cond (eqb k 19) (note s v aboveItem)
-    (cond (eqb k 20) (note s v itemInline)
-    (note s v endOfItems)))))))))))))))))))))
+    (cond (leb 19 k) (note s v (placeBy k))
+    (plainItem k v ∷ [])))
 
 -- the number of an operation: its kind has 5 bits, its operand 27
 abbrev pub coded : ℕ → ℕ → ℕ

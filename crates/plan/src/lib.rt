@@ -50,12 +50,10 @@ const LIMIT: u32 = 0x800_0000;
 // An array has at most so many operations.
 const MOST: u32 = 0xffff_ffff;
 
-// The kinds of operations; the others are the kinds of records.
+// The kinds of operations; the others are those of items without a text.
 pub const TOKEN: u32 = 0;
 
 pub const WORD: u32 = 1;
-
-pub const IF_LINES: u32 = 18;
 
 pub const NOTE_ABOVE: u32 = 19;
 
@@ -222,7 +220,7 @@ pub fn plan_if(ops: &mut [u32], cells: &mut [u32; 8], t: Condition)
 {
     match t {
         Condition::Always => add_numbered(ops, cells, items::IF, 0),
-        Condition::Lines(m) => add_numbered(ops, cells, IF_LINES, m.0),
+        Condition::Lines(m) => add_numbered(ops, cells, items::IF_LINES, m.0),
     }
 }
 

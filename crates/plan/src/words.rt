@@ -1,12 +1,9 @@
 // The texts of the formatter's own, by their numbers.
-use items::Printed;
-use items::print_text;
 use numbers::wide;
 ghost use mathlib.Core.Path.{_≡_};
-ghost use Prim.Native.Nat.{_<_, _≤_};
-ghost use Rattle.text.specs.Words.{wordStart};
-ghost use Rattle.items.specs.Item.{lit};
-ghost use Rattle.items.specs.Machine.{PrintsIn};
+ghost use Prim.Native.Nat.{_≤_};
+ghost use Rattle.text.specs.Basic.{ascii};
+ghost use Rattle.text.specs.Words.{joinedWords, wordStart};
 ghost use Rattle.plan.specs.Words.{words, wordAt, wordCount};
 
 pub const COMMA: u32 = 1;
@@ -106,14 +103,15 @@ fn start_of(w: u32) -> usize
     wide::from_u16(STARTS[at]) as usize
 }
 
-// Prints the text with a number.
-pub fn print_word(records: &mut [u32], texts: &mut [u8], w: u32, p: Printed) -> Printed
-    requires { ⌜ w < wordCount ⌝ }
-    ensures { λ r. ⌜ PrintsIn records texts p r (lit (wordAt w)) ⌝ }
+// The text with a number among all of them joined; behind the last one there is none.
+pub fn word_in(all: &[u8], w: u32) -> &[u8]
+    requires { ⌜ now all ≡ joinedWords words ⌝ }
+    ensures { λ r. ⌜ now r ≡ ascii (wordAt w) ⌝ }
 {
-    let all: &[u8] =
-        b", [ ][]{ }{}()locallocal ;/*missing ExprBase*//*missing Expr*//*missing BinaryOperator*//*missing UnaryOperator*//*missing Text*//*missing Number*//*missing Literal*//*missing ObjBody*//*missing ImportKind*//*missing Name*/if  then /*missing core::option::Option<Expr>*/ else function/*missing ParamsDesc*/error ?..?/*missing SliceDesc*//*missing ArgsDesc*//*missing Assertion*//*missing Destruct*/ = /*missing ObjLocal*//*missing FieldName*//*missing Visibility*/for  in for [...:/*missing Bind*/assert : ";
+    if WORDS <= w {
+        return &all[0..0];
+    }
     let start = start_of(w);
     let end = start_of(w + 1);
-    print_text(records, texts, &all[start..end], p)
+    &all[start..end]
 }

@@ -12,6 +12,7 @@ use numbers::Element;
 use numbers::refusal::Reason;
 use numbers::refusal::Refusal;
 use numbers::refusal::whole;
+pub use read::byte_count;
 pub use read::element_count;
 use refuse::Test;
 ghost use mathlib.Core.Path.{_≡_};

@@ -1,7 +1,7 @@
 use Prim.Native.Nat.{_-_}
-use borrow.Author.Needs.{needs}
 use lib.ListN.{length}
 use Rattle.items.proofs.Stores.{Storing, storing-none, storing-more, storing-all}
+use borrow.Author.Needs.{needs}
 use Rattle.items.proofs.put_bytes.Statement.{statement}
 use Rattle.items.proofs.put_bytes.Tie as tie
 
@@ -17,6 +17,10 @@ put-bytes-spec =
     (tie.spec
     Inv-loop
     μ-loop
+    (λ c. search needs)  -- add-if1
+    (λ c κs. search needs)  -- copy-bytes-requires
+    (λ c. search needs)  -- same-length
+    (λ c. search needs)  -- returns
     (λ c. search storing-none)  -- loop-holds
     (λ c. search needs)  -- add-put-byte
     (λ c. search needs)  -- shared-slice-read-put-byte
@@ -24,6 +28,6 @@ put-bytes-spec =
     (λ c. search needs)  -- add-i
     (λ c. search needs)  -- loop-less
     (λ c. search storing-more)  -- loop-again
-    (λ c. search needs)  -- same-length
-    (λ c. search storing-all)  -- returns
+    (λ c. search needs)  -- same-length-2
+    (λ c. search storing-all)  -- returns-2
     )

@@ -1,6 +1,7 @@
 use borrow.Author.Needs.{needs}
 use mathlib.Core.Path.{refl}
 use native.Mathlib.Omega.{arith}
+use Rattle.items.specs.Item.{plainItem}
 use Rattle.plan.specs.Ops.{expand}
 use Rattle.plan.proofs.Cells.{open-planned, passed, overrun, opened, coded-planned}
 use Rattle.plan.proofs.Laws.{blank}
@@ -11,7 +12,7 @@ returns-2 : tie.Need-returns-2
 returns-2 c s = open-planned s (overrun s _ _ _ (search needs) refl (search needs))
 
 returns-3 : tie.Need-returns-3
-unfolding expand
+unfolding expand plainItem
 returns-3 c s =
     let c1 = c .before .before in
     open-planned s (opened s _ _ _ _ _ refl (coded-planned s 12 _ (omega arith) (c1 .add .ensures s)))

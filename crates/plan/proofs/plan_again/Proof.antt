@@ -1,14 +1,14 @@
 use borrow.Author.Needs.{needs}
 use native.Mathlib.Omega.{arith}
 use Rattle.plan.proofs.Cells.{carried-again}
-use Rattle.items.specs.Item.{says, say}
+use Rattle.items.specs.Item.{says, say, plainItem}
 use Rattle.plan.specs.Ops.{expand}
 use Rattle.plan.proofs.Laws.{blank}
 use Rattle.plan.proofs.plan_again.Statement.{statement}
 use Rattle.plan.proofs.plan_again.Tie as tie
 
 returns : tie.Need-returns
-unfolding expand says say
+unfolding expand plainItem says say
 returns c s =
     let c1 = c .before .before in
     c1 .add-numbered .ensures s (carried-again s _)

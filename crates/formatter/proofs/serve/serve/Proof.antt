@@ -1,5 +1,7 @@
-use mathlib.Core.Path.{refl}
-use Rattle.formatter.proofs.Calls.{refused-by, accepted-by}
+use mathlib.Core.Path.{refl, sym, ap, _∙_}
+use Rattle.tree.specs.Answer.{said}
+use Rattle.tree.proofs.Accepted.{passing}
+use Rattle.formatter.proofs.Calls.{refused-by}
 use borrow.Author.Needs.{needs}
 use Rattle.formatter.proofs.serve.serve.Statement.{statement}
 use Rattle.formatter.proofs.serve.serve.Tie as tie
@@ -10,13 +12,8 @@ serve-spec =
     (tie.spec
     (λ c κs. search needs)  -- refusal-requires
     (λ c. search needs)  -- enum-known-t
-    (λ c. search needs)  -- enum-known-t-2
-    (λ c. search needs)  -- cast-most
-    (λ c. search needs)  -- mul-most
-    (λ c. search needs)  -- cast-most-2
-    (λ c. search needs)  -- mul-most-2
-    (λ c. search needs)  -- add-most
-    (λ c κs. accepted-by _ (c .before .before .before .before .t2 .given .1) (c .before .before .before .before .before .before .refusal .ensures))  -- serve-accepted-requires
+    (λ c. search needs)  -- enum-told
+    (λ c κs. passing _ _ _ (ap said (sym (c .before .before .before .enum-told .given .1)) ∙ c .before .before .before .before .before .refusal .ensures) .unrefused)  -- serve-accepted-requires
     (λ c. refused-by _ _ _ _ _ (c .before .t .given .1) refl (c .before .before .before .refusal .ensures))  -- returns
     (λ c. search needs)  -- same-length
     (λ c. search needs)  -- same-length-2
