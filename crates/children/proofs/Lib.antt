@@ -2,13 +2,14 @@
 pub mod Among
 mod Arounds
 mod Glue
+mod Growing
 pub mod Kids
 pub mod Lead
 mod Leading
 mod Spanning
 pub mod Stretch
-mod Sums
 mod Surveying
+mod Tallies
 mod Turns
 pub mod Uses
 pub mod Walks

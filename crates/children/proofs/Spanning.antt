@@ -1,26 +1,28 @@
 -- The loop of `gap`: the gap so far.
 use mathlib.Core.Path.{_≡_, refl, ap, _∙_, sym}
-use mathlib.Core.Bool.{Bool, true, false, cond, not, _&&_, false≢true}
-use mathlib.Core.List.{List, [], _∷_, _++_, append-nil, append-assoc}
-use Prim.Native.Nat.{ℕ, _-_, _<_, _≤_}
+use mathlib.Core.Bool.{Bool, true, false, cond, not, false≢true}
+use mathlib.Core.List.{List, [], _∷_, _++_, append-nil}
+use Prim.Native.Nat.{ℕ, _+_, _-_, _<_, _≤_}
 use native.Mathlib.Omega.{arith}
-use lib.Dec.{eqb, leb}
-use borrow.Author.Tests.{lt-leb, leb-true}
+use lib.ListN.{length}
 use Rattle.tree.specs.declared.class.Kinds.{Kinds}
-use Rattle.tree.specs.Class.{is, oneOf, kinds, allOf}
+use Rattle.tree.specs.Class.{is, oneOf}
 use Rattle.tree.specs.Tree.{Part}
 use Rattle.children.specs.Reading.{isNote}
-use Rattle.children.specs.Gaps.{Go, Turn, turn, code, goCode, triviaTurn, otherTurn, breaks, widen, gaps, turned, startedBy, hadBy, followsBy, startedAfter, hadAfter, addsInline, addsWaiting, ending}
-use Rattle.tree.specs.Index.{Table, Region, partsFrom, partAt, endAt}
-use Rattle.children.specs.Stretch.{Jumps, here, notes, inlineIn, waitingIn}
+use Rattle.children.specs.Gaps.{Go, Turn, turn, code, goCode, triviaTurn, otherTurn, breaks, widen, gaps, turned, startedBy, hadBy, followsBy, startedAfter, hadAfter, addsInline, addsWaiting, ending, spaceIn}
+use Rattle.tree.specs.Index.{Table, Region, partsFrom, partAt, kindAt, endAt}
+use Rattle.children.specs.declared.gap.Span.{Span}
+use Rattle.children.specs.declared.tally.Tally.{Tally}
+use Rattle.children.specs.Stretch.{Jumps, here, inlineIn, waitingIn}
+use Rattle.children.specs.Tally.{nothing, counted}
 use Rattle.children.specs.Spans.{Spans, Lies, spanned}
 use Rattle.tree.proofs.Siblings.{parts-next, parts-over}
-use Rattle.children.proofs.Walks.{parts-more, all-more}
 use Rattle.tree.specs.declared.class.Class.the-variants as Class
 use Rattle.children.specs.Gaps as G
-use Rattle.children.proofs.Stretch.{note-kinds, jumps-le, jumps-next}
+use Rattle.children.proofs.Stretch.{jumps-le, jumps-next}
+use Rattle.children.proofs.Tallies.{not-error}
+use Rattle.children.proofs.Growing.{inline-none, waiting-none, inline-more, waiting-follow, waiting-more, Tallied, tallied-none, tallied-few, tallied-fits, tallied-stays, tallied-goes}
 use Rattle.children.proofs.Widening.{widen-none, widen-both}
-use Rattle.text.proofs.Lists.{and-true}
 
 pub go-le : (g : Go) → goCode g ≤ 5
 go-le G.inline = omega arith
@@ -59,13 +61,6 @@ Saying G.child s x = Unit {0}
 Saying G.out s x = Unit {0}
 Saying G.foreign s x = Unit {0}
 
-pub not-error : (x : Part) → is Class.Trivia x ≡ true → is Class.CustomError x ≡ false
-unfolding oneOf kinds
-not-error x e =
-    let (p, q) = and-true (leb 64 (x .kind) && leb (x .kind) 69) (not (eqb (x .kind) 0)) e in
-    let (u, v) = and-true (leb 64 (x .kind)) (leb (x .kind) 69) p in
-    rw (lt-leb 70 (x .kind) (omega (arith, leb-true (x .kind) 69 v)))
-
 said-trivia : (s : Bool) (x : Part) → is Class.Trivia x ≡ true → Saying (triviaTurn s x) s x
 unfolding triviaTurn
 said-trivia true x e = record { trivia = e; error = not-error x e; fresh = λ h. absurd (omega arith) }
@@ -96,29 +91,6 @@ said w l s h x = go (oneOf w (x .kind)) (is Class.Trivia x) refl (is Class.Custo
     go false false e true f = record { trivia = e; error = f; fresh = λ h. absurd (omega arith) }
     go false false e false f = said-other l h s x e f
 
--- ---- one element more in a gap
-
-module _ {index image : List ℕ} {n : ℕ} (t : Table image index n) (from j : ℕ) (k : j < n) where
-  inline-more : Jumps index n from j → inlineIn image index from (endAt index j) ≡ inlineIn image index from j ++ cond (is Class.Trivia (partAt image index j)) (partAt image index j ∷ []) []
-  unfolding inlineIn
-  inline-more p = rw (parts-more t p k, all-more (kinds Class.Trivia) (partsFrom image index from j) (partAt image index j))
-
-  pub waiting-follow : Jumps index n from j → waitingIn image index from (endAt index j) (endAt index j) ≡ waitingIn image index from j j ++ cond (is Class.CustomError (partAt image index j)) (partAt image index j ∷ []) []
-  unfolding waitingIn allOf
-  waiting-follow p =
-      rw (
-        parts-over index image (endAt index j) (endAt index j) (omega arith),
-        parts-over index image j j (omega arith),
-        parts-more t p k,
-        all-more (kinds Class.CustomError) (partsFrom image index from j) (partAt image index j),
-        append-nil,
-        append-nil,
-      )
-
-  waiting-more : (cut : ℕ) → Jumps index n cut j → waitingIn image index from cut (endAt index j) ≡ waitingIn image index from cut j ++ cond (isNote (partAt image index j)) (partAt image index j ∷ []) []
-  unfolding waitingIn
-  waiting-more cut p = rw (parts-more t p k, all-more notes (partsFrom image index cut j) (partAt image index j), note-kinds (partAt image index j), append-assoc)
-
 gaps-next : {index image : List ℕ} {n : ℕ} (t : Table image index n) (w : Kinds) (l s h : Bool) (j b : ℕ) → b ≤ n → j < b
     → gaps w l s h (partsFrom image index j b) ≡ turned (turn w l s h (partAt image index j)) (partAt image index j) s h (λ s h. gaps w l s h (partsFrom image index (endAt index j) b))
 unfolding gaps
@@ -127,32 +99,27 @@ gaps-next {index} {image} t w l s h j b k g = rw (parts-next t j b k g)
 -- ---- the loop of `gap`
 
 -- The gap so far: what is read from j on, with what was met in front, is what is read from `from` on.
-pub record Spanning (index image : List ℕ) (w : Kinds) (loose after : Bool) (from b cut j : ℕ) (started had : Bool) : Type 0 where
+pub record Spanning (index image : List ℕ) (w : Kinds) (loose after : Bool) (from b cut j : ℕ) (started had : Bool) (t : Tally) : Type 0 where
   pub region : Region image index j b
   pub first : Jumps index (region .n) from cut
   pub second : Jumps index (region .n) cut j
   pub follows : started ≡ false → cut ≡ j
+  pub tally : Tallied index image from cut j t
   pub rest : gaps w loose (not after) after (partsFrom image index from b) ≡ widen (inlineIn image index from cut) (waitingIn image index from cut j) (gaps w loose started had (partsFrom image index j b))
 
-inline-none : (index image : List ℕ) (a : ℕ) → inlineIn image index a a ≡ []
-unfolding inlineIn allOf
-inline-none index image a = rw (parts-over index image a a (omega arith))
+pub spanning-none : (index image : List ℕ) (w : Kinds) (l a : Bool) (from b : ℕ) (t : Tally) → Region image index from b → t ≡ nothing → Spanning index image w l a from b from from (not a) a t
+spanning-none index image w l a from b t r e =
+    rw e (record { region = r; first = here; second = here; follows = λ q. refl; tally = tallied-none index image from; rest = rw (inline-none, waiting-none, widen-none) })
 
-pub waiting-none : (index image : List ℕ) (a : ℕ) → waitingIn image index a a a ≡ []
-unfolding waitingIn allOf
-waiting-none index image a = rw (parts-over index image a a (omega arith))
-
-pub spanning-none : (index image : List ℕ) (w : Kinds) (l a : Bool) (from b : ℕ) → Region image index from b → Spanning index image w l a from b from from (not a) a
-spanning-none index image w l a from b r =
-    record { region = r; first = here; second = here; follows = λ q. refl; rest = rw (inline-none, waiting-none, widen-none) }
-
-laid : {index image : List ℕ} {w : Kinds} {l a : Bool} {from b cut j : ℕ} {s h e : Bool} {d : ℕ} → Spanning index image w l a from b cut j s h → Lies image index (record { from = from; cut = cut; to = j; had = e; end = d })
+laid : {index image : List ℕ} {w : Kinds} {l a : Bool} {from b cut j : ℕ} {s h e : Bool} {t : Tally} {d : ℕ} → Spanning index image w l a from b cut j s h t → Lies image index (record { from = from; cut = cut; to = j; had = e; end = d; tally = t })
 laid K = record {
   first = record { n = K .region .n; table = K .region .table; upto = omega (arith, K .region .begins, jumps-le (K .region .table) (K .second)); jumps = K .first };
   second = record { n = K .region .n; table = K .region .table; upto = K .region .begins; jumps = K .second };
+  tells = K .tally .tells;
+  few = tallied-few (K .region .table) (K .tally) (K .region .begins);
 }
 
-module _ {index image : List ℕ} {w : Kinds} {l a : Bool} {from b cut j : ℕ} {s h : Bool} (K : Spanning index image w l a from b cut j s h) (lt : j < b) where
+module _ {index image : List ℕ} {w : Kinds} {l a : Bool} {from b cut j : ℕ} {s h : Bool} {t : Tally} (K : Spanning index image w l a from b cut j s h t) (lt : j < b) where
   abbrev tab : Table image index (K .region .n)
   tab = K .region .table
 
@@ -171,18 +138,19 @@ module _ {index image : List ℕ} {w : Kinds} {l a : Bool} {from b cut j : ℕ} 
 
   -- the cut stays where it is
   stays : (g : Go) → turn w l s h x ≡ G.on g → addsInline g x ≡ [] → cond (isNote x) (x ∷ []) [] ≡ addsWaiting g x → (startedAfter g s ≡ false → ⊥)
-      → Spanning index image w l a from b cut (endAt index j) (startedAfter g s) (hadAfter g h)
+      → Spanning index image w l a from b cut (endAt index j) (startedAfter g s) (hadAfter g h) (counted false (kindAt index j) (spaceIn x) t)
   stays g q u v f = record {
     region = next-region;
     first = K .first;
     second = jumps-next tab (K .second) in-n;
     follows = λ e. absurd (f e);
+    tally = tallied-stays tab (K .tally) in-n (K .second);
     rest = rw (waiting-more tab from j in-n cut (K .second), v) (rw (u, append-nil (inlineIn image index from cut)) at (step-rest g q));
   }
 
   -- the cut goes on with the element
   goes : (g : Go) → turn w l s h x ≡ G.on g → s ≡ false → cond (is Class.Trivia x) (x ∷ []) [] ≡ addsInline g x → cond (is Class.CustomError x) (x ∷ []) [] ≡ addsWaiting g x
-      → Spanning index image w l a from b (endAt index j) (endAt index j) (startedAfter g s) (hadAfter g h)
+      → Spanning index image w l a from b (endAt index j) (endAt index j) (startedAfter g s) (hadAfter g h) (counted true (kindAt index j) (spaceIn x) t)
   goes g q z u v =
       let e : cut ≡ j = K .follows z in
       let p : Jumps index (K .region .n) from j = rw e at (K .first) in
@@ -191,11 +159,12 @@ module _ {index image : List ℕ} {w : Kinds} {l a : Bool} {from b cut j : ℕ} 
         first = jumps-next tab p in-n;
         second = here;
         follows = λ e. refl;
+        tally = tallied-goes tab (rw e at (K .tally)) in-n p;
         rest = rw (inline-more tab from j in-n p, waiting-follow tab from j in-n p, u, v) (rw e at (step-rest g q));
       }
 
   abbrev Stepped : ℕ → Type 0
-  Stepped c = Spanning index image w l a from b (cond (followsBy c s) (endAt index j) cut) (endAt index j) (startedBy c s) (hadBy c h)
+  Stepped c = Spanning index image w l a from b (cond (followsBy c s) (endAt index j) cut) (endAt index j) (startedBy c s) (hadBy c h) (counted (followsBy c s) (kindAt index j) (spaceIn x) t)
 
   step : (g : Go) → turn w l s h x ≡ G.on g → Says g s x → (v : Bool) → s ≡ v → Stepped (goCode g)
   unfolding followsBy startedBy hadBy
@@ -217,12 +186,16 @@ module _ {index image : List ℕ} {w : Kinds} {l a : Bool} {from b cut j : ℕ} 
       go G.out q y e = absurd (omega arith)
       go G.foreign q y e = absurd (omega arith)
 
-  pub spanning-more : (c next cut′ : ℕ) (f s′ h′ : Bool) → c ≡ code (turn w l s h x) → c < 6 → next ≡ endAt index j → f ≡ followsBy c s → cut′ ≡ cond f next cut → h′ ≡ hadBy c h → s′ ≡ startedBy c s
-      → Spanning index image w l a from b cut′ next s′ h′
-  spanning-more c next cut′ f s′ h′ e k n p q u v = rw (q, p, n, u, v) (stepped c e k)
+  -- the tally fits
+  pub spanning-fits : (f : ℕ) → f ≡ spaceIn x → t .before + t .back + f + 2 ≤ length image + length index
+  spanning-fits = tallied-fits tab (K .tally) in-n
+
+  pub spanning-more : (c next cut′ k m : ℕ) (f s′ h′ : Bool) (t′ : Tally) → m ≡ spaceIn x → c ≡ code (turn w l s h x) → c < 6 → next ≡ endAt index j → f ≡ followsBy c s → cut′ ≡ cond f next cut → h′ ≡ hadBy c h → s′ ≡ startedBy c s
+      → k ≡ kindAt index j → t′ ≡ counted f k m t → Spanning index image w l a from b cut′ next s′ h′ t′
+  spanning-more c next cut′ k m f s′ h′ t′ i e lt n p q u v o z = rw (z, o, i, q, p, n, u, v) (stepped c e lt)
 
   abbrev Ended : ℕ → Type 0
-  Ended c = spanned image index w l b (record { from = from; cut = cut; to = j; had = h; end = c - 6 }) ≡ widen (inlineIn image index from cut) (waitingIn image index from cut j) (gaps w l s h (partsFrom image index j b))
+  Ended c = spanned image index w l b (record { from = from; cut = cut; to = j; had = h; end = c - 6; tally = t }) ≡ widen (inlineIn image index from cut) (waitingIn image index from cut j) (gaps w l s h (partsFrom image index j b))
 
   ended : (c : ℕ) → c ≡ code (turn w l s h x) → 6 ≤ c → Ended c
   unfolding spanned widen
@@ -234,8 +207,8 @@ module _ {index image : List ℕ} {w : Kinds} {l a : Bool} {from b cut j : ℕ} 
       go G.out q y e = rw (gaps-next tab w l s h j b (K .region .ends) lt, q, e, append-nil (inlineIn image index from cut), append-nil (waitingIn image index from cut j))
       go G.foreign q y e = rw (gaps-next tab w l s h j b (K .region .ends) lt, q, e)
 
-  pub spanning-stop : (c d : ℕ) → c ≡ code (turn w l s h x) → 6 ≤ c → d ≡ c - 6 → Spans image index w l a from b (record { from = from; cut = cut; to = j; had = h; end = d })
-  spanning-stop c d e k z = rw z (record {
+  pub spanning-stop : (c : ℕ) (r : Span) → c ≡ code (turn w l s h x) → 6 ≤ c → r ≡ record { from = from; cut = cut; to = j; had = h; end = c - 6; tally = t } → Spans image index w l a from b r
+  spanning-stop c r e k z = rw z (record {
     begins = refl;
     lies = laid K;
     onward = K .region;
@@ -247,20 +220,20 @@ gaps-none : (w : Kinds) (l s h : Bool) (index image : List ℕ) (j b : ℕ) → 
 unfolding gaps
 gaps-none w l s h index image j b k = rw (parts-over index image j b k)
 
-over : (index image : List ℕ) (w : Kinds) (l : Bool) (from b cut j : ℕ) (s h : Bool) → b ≤ j
-    → spanned image index w l b (record { from = from; cut = cut; to = j; had = h; end = 1 }) ≡ widen (inlineIn image index from cut) (waitingIn image index from cut j) (gaps w l s h (partsFrom image index j b))
+over : (index image : List ℕ) (w : Kinds) (l : Bool) (from b cut j : ℕ) (s h : Bool) (t : Tally) → b ≤ j
+    → spanned image index w l b (record { from = from; cut = cut; to = j; had = h; end = 1; tally = t }) ≡ widen (inlineIn image index from cut) (waitingIn image index from cut j) (gaps w l s h (partsFrom image index j b))
 unfolding spanned widen
-over index image w l from b cut j s h k = rw (gaps-none w l s h index image j b k, append-nil (inlineIn image index from cut), append-nil (waitingIn image index from cut j))
+over index image w l from b cut j s h t k = rw (gaps-none w l s h index image j b k, append-nil (inlineIn image index from cut), append-nil (waitingIn image index from cut j))
 
-pub spanning-all : {index image : List ℕ} {w : Kinds} {l a : Bool} {from b cut j : ℕ} {s h : Bool} → Spanning index image w l a from b cut j s h → b ≤ j
-    → Spans image index w l a from b (record { from = from; cut = cut; to = j; had = h; end = 1 })
-spanning-all {index} {image} {w} {l} {a} {from} {b} {cut} {j} {s} {h} K k = record {
+pub spanning-all : {index image : List ℕ} {w : Kinds} {l a : Bool} {from b cut j : ℕ} {s h : Bool} {t : Tally} (r : Span) → Spanning index image w l a from b cut j s h t → b ≤ j
+    → r ≡ record { from = from; cut = cut; to = j; had = h; end = 1; tally = t } → Spans image index w l a from b r
+spanning-all {index} {image} {w} {l} {a} {from} {b} {cut} {j} {s} {h} {t} r K k z = rw z (record {
   begins = refl;
   lies = laid K;
   onward = K .region;
   inside = λ q. absurd (omega arith);
-  read = K .rest ∙ sym (over index image w l from b cut j s h k);
-}
+  read = K .rest ∙ sym (over index image w l from b cut j s h t k);
+})
 
-pub spanning-less : {index image : List ℕ} {w : Kinds} {l a : Bool} {from b cut j : ℕ} {s h : Bool} (next : ℕ) → Spanning index image w l a from b cut j s h → j < b → next ≡ endAt index j → b - next < b - j
+pub spanning-less : {index image : List ℕ} {w : Kinds} {l a : Bool} {from b cut j : ℕ} {s h : Bool} {t : Tally} (next : ℕ) → Spanning index image w l a from b cut j s h t → j < b → next ≡ endAt index j → b - next < b - j
 spanning-less {index} {image} {w} {l} {a} {from} {b} {cut} {j} next K k e = omega (arith, K .region .table .past j (omega (arith, K .region .ends)))

@@ -24,7 +24,7 @@ use Rattle.children.specs.Reading.{newlinesBefore, newlinesBack}
 use Rattle.children.specs.Whole.{sumsOf}
 use Rattle.children.specs.Lead.{Leads, leads, led, leadAt, childAfter, readingAfter, SurveyedAfter}
 use Rattle.children.specs.Stretch.{notes, waitingIn}
-use Rattle.children.specs.Spans.{Spans, spanned, gapAt, Surveying, SurveyedFrom, Surveyed, surveyed}
+use Rattle.children.specs.Spans.{Lies, Spans, spanned, gapAt, Surveying, SurveyedFrom, Surveyed, surveyed}
 use Rattle.children.proofs.Whole.{first-sums}
 use Rattle.children.proofs.Stretch.{jumps-le}
 
@@ -98,9 +98,9 @@ module _ {index image : List ℕ} {w : Kinds} {l : Bool} {from b : ℕ} {s : Spa
 
   module _ (e : s .end ≡ 0) {q : Bool} (z : q ≡ isNil (gapAt image index s .waiting)) where
     -- an error bars the first child
-    pub after-barred : {o : Span} {r : Outline} → not q ≡ true → o ≡ record { from = s .from; cut = s .cut; to = s .to; had = s .had; end = 2 } → r ≡ record { children = 0; many = false; blank = false; last = o } → SurveyedAfter image index w l t from b r
+    pub after-barred : {o : Span} {r : Outline} → not q ≡ true → o ≡ record { from = s .from; cut = s .cut; to = s .to; had = s .had; end = 2; tally = s .tally } → r ≡ record { children = 0; many = false; blank = false; last = o } → SurveyedAfter image index w l t from b r
     unfolding led readingAfter sumsOf surveyed
-    after-barred k p d = rw (d, p) (record { lies = record { first = h .lies .first; second = h .lies .second }; read = as-led ∙ rw (eq-eqb (s .end) 0 e, ← z, not-true q k) })
+    after-barred k p d = rw (d, p) (record { lies = record { first = h .lies .first; second = h .lies .second; tells = h .lies .tells; few = h .lies .few }; read = as-led ∙ rw (eq-eqb (s .end) 0 e, ← z, not-true q k) })
 
     -- the first child takes the list
     taken : not q ≡ false → {m : ℕ} → m ≡ newlinesBefore (gapAt image index t .waiting)
@@ -127,25 +127,14 @@ module _ {index image : List ℕ} {w : Kinds} {l : Bool} {from b : ℕ} {s : Spa
         pub after-whole : {m : ℕ} {r : Outline} → not q ≡ false → m ≡ newlinesBefore (gapAt image index t .waiting) → SurveyedFrom image index w l b g 1 (leb 1 m) r → SurveyedAfter image index w l t from b r
         after-whole {m} i d v = record { lies = v .lies; read = as-led ∙ taken i d ∙ ap (gapSums 1 (leb 1 m)) (rw n at (k .read)) ∙ v .read }
 
--- ---- nothing waits
+-- ---- what a gap's tally says
 
-pub none-found : (w : Kinds) (xs : List Part) → not (present (numberOf (nthOf w 0 xs))) ≡ isNil (allOf w xs)
-unfolding nthOf allOf
-none-found w [] = refl
-none-found w (x ∷ xs) = go (oneOf w (x .kind)) (none-found w xs)
+pub blank-is : (h : Bool) {n m : ℕ} → n ≡ m → (h && leb 2 n) ≡ (h && leb 2 m)
+blank-is h e = rw e
+
+pub not-waits : {index image : List ℕ} {s : Span} → Lies image index s → not (s .tally .waits) ≡ isNil (gapAt image index s .waiting)
+not-waits h = rw (h .tells .waits) (go _)
   where
-    go : (t : Bool) → not (present (numberOf (nthOf w 0 xs))) ≡ isNil (allOf w xs) → not (present (numberOf (cond t (some x) (nthOf w 0 xs)))) ≡ isNil (cond t (x ∷ allOf w xs) (allOf w xs))
-    go true e = refl
-    go false e = e
-
-pub none-is : (w : Kinds) (xs : List Part) (f : Option ℕ) (r : Bool) → f ≡ numberOf (nthOf w 0 xs) → r ≡ not (present f) → r ≡ isNil (allOf w xs)
-none-is w xs f r p q = q ∙ ap (λ (o : Option ℕ). not (present o)) p ∙ none-found w xs
-
-nil-both : (xs ys : List Part) → isNil (xs ++ ys) ≡ (isNil xs && isNil ys)
-nil-both [] ys = refl
-nil-both (x ∷ xs) ys = refl
-
-pub none-waits : (index image : List ℕ) (s : Span) (u v : Kinds) (x y : Bool) → u ≡ kinds Class.CustomError → x ≡ isNil (allOf u (partsFrom image index (s .from) (s .cut)))
-    → v ≡ notes → y ≡ isNil (allOf v (partsFrom image index (s .cut) (s .to))) → (x && y) ≡ isNil (gapAt image index s .waiting)
-unfolding waitingIn
-none-waits index image s u v x y e p f q = rw (nil-both, ← e, ← f, p, q)
+    go : (b : Bool) → not (not b) ≡ b
+    go true = refl
+    go false = refl

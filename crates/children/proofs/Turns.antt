@@ -4,11 +4,11 @@ use mathlib.Core.Bool.{Bool, true, false, cond, _&&_}
 use mathlib.Core.List.{List}
 use Prim.Native.Nat.{ℕ, _<_, _≤_}
 use lib.Dec.{leb}
-use borrow.Author.Tests.{le-leb, lt-leb}
+use borrow.Author.Tests.{le-leb, lt-leb, eq-eqb, ne-eqb}
 use Rattle.tree.specs.declared.class.Kinds.{Kinds}
 use Rattle.tree.specs.Class.{oneOf, ofKind, kinds}
 use Rattle.text.specs.Basic.{count}
-use Rattle.children.specs.Gaps.{turn, code, triviaTurn, otherTurn}
+use Rattle.children.specs.Gaps.{turn, code, triviaTurn, otherTurn, spaceIn}
 use Rattle.tree.specs.Index.{kindAt, textAt, partAt}
 use Rattle.tree.specs.declared.class.Class.{Class}
 use Rattle.tree.specs.declared.class.Class.the-variants as Class
@@ -21,6 +21,20 @@ class-of c k v r p q = rw (← p) q
 
 pub feeds-of : (i t s : List ℕ) (j r : ℕ) → s ≡ textAt t i j → r ≡ count 10 s → r ≡ count 10 (textAt t i j)
 feeds-of i t s j r p q = rw (← p) q
+
+-- ---- space_of, feeds_of
+
+pub space-yes : (i t : List ℕ) (j k n : ℕ) → k ≡ kindAt i j → k ≡ 64 → n ≡ count 10 (textAt t i j) → n ≡ spaceIn (partAt t i j)
+unfolding spaceIn
+space-yes i t j k n e q f = rw (← e, eq-eqb k 64 q) f
+
+pub space-no : (i t : List ℕ) (j k : ℕ) → k ≡ kindAt i j → (k ≡ 64 → ⊥) → 0 ≡ spaceIn (partAt t i j)
+unfolding spaceIn
+space-no i t j k e q = rw (← e, ne-eqb k 64 q)
+
+pub feeds-known : (i t : List ℕ) (j k f : ℕ) → f ≡ spaceIn (partAt t i j) → k ≡ kindAt i j → k ≡ 64 → f ≡ count 10 (textAt t i j)
+unfolding spaceIn
+feeds-known i t j k f p e q = rw (← e, eq-eqb k 64 q) at p
 
 -- ---- other_turn
 

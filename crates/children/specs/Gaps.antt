@@ -150,14 +150,6 @@ followsBy t s = leb t 1 || ((not (eqb t 2) && not (eqb t 5)) && not s)
 unfoldable pub spaceIn : Part → ℕ
 spaceIn x = cond (eqb (x .kind) 64) (count 10 (x .text)) 0
 
--- 1 for a custom error
-unfoldable pub errorIn : Part → ℕ
-errorIn x = cond (is Class.CustomError x) 1 0
-
--- trivia that is no whitespace: at it the newlines before a child end
-unfoldable pub stops : Part → Bool
-stops x = is Class.Trivia x && not (eqb (x .kind) 64)
-
 -- What a reading comes to: the foreign element, or how many children, whether one triggers many lines, whether a blank
 -- line is asked for behind them, and what waits there.
 pub data Sums : Type 0 where

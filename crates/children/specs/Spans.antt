@@ -1,19 +1,17 @@
 -- What the numbers that the code walks with mean: gaps, and what a survey of a reading says.
 use mathlib.Core.Path.{_≡_}
 use mathlib.Core.Bool.{Bool, true, false, cond, not}
-use mathlib.Core.List.{List, reverse}
+use mathlib.Core.List.{List}
 use Prim.Native.Nat.{ℕ, _+_, _<_, _≤_}
 use lib.Dec.{eqb}
 use lib.ListN.{length}
-use Rattle.tree.specs.declared.class.Class.the-variants as Class
 use Rattle.tree.specs.declared.class.Kinds.{Kinds}
-use Rattle.tree.specs.Class.{kinds, allOf}
-use Rattle.tree.specs.Index.{Region, partsFrom, partAt, endAt, startAt}
+use Rattle.tree.specs.Index.{Region, partsFrom, partAt, endAt}
 use Rattle.children.specs.declared.gap.Span.{Span}
 use Rattle.children.specs.declared.survey.Outline.{Outline}
-use Rattle.children.specs.Reading.{newlinesBefore, newlinesBack}
 use Rattle.children.specs.Gaps.{Gap, gapOf, Gaps, stopped, ending, gaps, Sums, foreignAt, sums, gapSums}
-use Rattle.children.specs.Stretch.{Stretch, notes, inlineIn, waitingIn}
+use Rattle.children.specs.Stretch.{Stretch, inlineIn, waitingIn}
+use Rattle.children.specs.Tally.{Tells}
 
 -- the gap that three numbers mean
 abbrev pub gapAt : List ℕ → List ℕ → Span → Gap
@@ -26,10 +24,13 @@ spanned image index w loose b r =
     (cond (eqb (r .end) 1) (ending (gapAt image index r))
     (stopped (r .to)))
 
--- The numbers of a gap are reached one from another.
+-- The numbers of a gap are reached one from another, and its tally is that of what it holds.
 pub record Lies (image index : List ℕ) (r : Span) : Type 0 where
   pub first : Stretch image index (r .from) (r .cut)
   pub second : Stretch image index (r .cut) (r .to)
+  pub tells : Tells (gapAt image index r .inline) (gapAt image index r .waiting) (r .tally)
+  -- its newlines are no more than there are bytes and numbers
+  pub few : r .tally .before + r .tally .back ≤ length image + length index
 
 -- r is the gap at `from` of a reading up to b, behind a child or at the reading's start.
 pub record Spans (image index : List ℕ) (w : Kinds) (loose after : Bool) (from b : ℕ) (r : Span) : Type 0 where
@@ -38,21 +39,6 @@ pub record Spans (image index : List ℕ) (w : Kinds) (loose after : Bool) (from
   pub onward : Region image index (r .to) b
   pub inside : r .end ≡ 0 → r .to < b
   pub read : gaps w loose (not after) after (partsFrom image index from b) ≡ spanned image index w loose b r
-
--- n custom errors stand from a to b
-pub record Errors (image index : List ℕ) (a b n : ℕ) : Type 0 where
-  pub sum : n ≡ length (allOf (kinds Class.CustomError) (partsFrom image index a b))
-  pub few : n ≤ b
-
--- the newlines of the inline trivia from a to b, n in all
-pub record Back (image index : List ℕ) (a b n : ℕ) : Type 0 where
-  pub sum : n ≡ newlinesBack (reverse (inlineIn image index a b))
-  pub few : n + startAt index a ≤ startAt index b + b
-
--- the newlines that stand behind a gap's cut, n in all
-pub record Ahead (image index : List ℕ) (a b n : ℕ) : Type 0 where
-  pub sum : n ≡ newlinesBefore (allOf notes (partsFrom image index a b))
-  pub few : n + startAt index a ≤ startAt index b + b
 
 -- A survey may go on at the gap s, behind k children.
 pub record Surveying (image index : List ℕ) (b : ℕ) (s : Span) (k : ℕ) : Type 0 where

@@ -1,10 +1,15 @@
 // The gaps of a reading: one before each child, and one at the end.
+use super::tally::Tally;
+use super::tally::nothing;
+use super::tally::tallied;
 use super::turn::STOP;
 use super::turn::follows_by;
 use super::turn::had_by;
+use super::turn::space_of;
 use super::turn::started_by;
 use super::turn::turn_of;
 use tree::access::end_at;
+use tree::access::kind_at;
 use tree::class::Kinds;
 ghost use mathlib.Core.Path.{_≡_};
 ghost use mathlib.Core.Bool.{cond};
@@ -20,13 +25,36 @@ pub const AT_END: u32 = 1;
 pub const AT_FOREIGN: u32 = 2;
 
 // A gap: where it begins, the cut between inline and waiting trivia, where it ends; whether a child or trivia came so far;
-// and what ends it.
+// what ends it; and what it holds.
 pub struct Span {
     pub from: u32,
     pub cut: u32,
     pub to: u32,
     pub had: bool,
     pub end: u32,
+    pub tally: Tally,
+}
+
+// A gap of these parts.
+fn span_of(from: u32, cut: u32, to: u32, had: bool, end: u32, tally: Tally) -> Span
+    ensures { λ r. ⌜ r ≡ record { from = from; cut = cut; to = to; had = had; end = end; tally = tally } ⌝ }
+{
+    Span {
+        from,
+        cut,
+        to,
+        had,
+        end,
+        tally,
+    }
+}
+
+// A gap with another end.
+pub fn ended_by(s: Span, end: u32) -> Span
+    ensures { λ r. ⌜ r ≡ record { from = s .from; cut = s .cut; to = s .to; had = s .had; end = end; tally = s .tally } ⌝ }
+{
+    let t = s.tally;
+    span_of(s.from, s.cut, s.to, s.had, end, t)
 }
 
 // The first where it follows, else the second.
@@ -53,31 +81,22 @@ pub fn gap(
     let mut had = after;
     let mut cut = from;
     let mut j = from;
+    let mut tally = nothing();
     while j < b {
-        let t = turn_of(image, index, w, loose, started, had, j);
+        let f = space_of(image, index, j);
+        let t = turn_of(image, index, w, loose, started, had, j, f);
         if t >= STOP {
-            return Span {
-                from,
-                cut,
-                to: j,
-                had,
-                end: t - STOP,
-            };
+            return span_of(from, cut, j, had, t - STOP, tally);
         }
         let next = end_at(index, j);
         let follows = follows_by(t, started);
         cut = pick(follows, next, cut);
         had = had_by(t, had);
         started = started_by(t, started);
+        tally = tallied(tally, kind_at(index, j), f, follows);
         j = next;
     }
-    Span {
-        from,
-        cut,
-        to: j,
-        had,
-        end: AT_END,
-    }
+    span_of(from, cut, j, had, AT_END, tally)
 }
 
 // The first gap of a reading that is handed a trailing list: it holds errors only, and cut and to are one.
@@ -86,24 +105,15 @@ pub fn lead(image: &[u8], index: &[u32], w: Kinds, loose: bool, from: u32, b: u3
     ensures { λ r. ⌜ Leads (now (image .entry)) (now (index .entry)) w loose from b r ⌝ }
 {
     let mut j = from;
+    let mut tally = nothing();
     while j < b {
-        let t = turn_of(image, index, w, loose, true, false, j);
+        let f = space_of(image, index, j);
+        let t = turn_of(image, index, w, loose, true, false, j, f);
         if t >= STOP {
-            return Span {
-                from,
-                cut: j,
-                to: j,
-                had: false,
-                end: t - STOP,
-            };
+            return span_of(from, j, j, false, t - STOP, tally);
         }
+        tally = tallied(tally, kind_at(index, j), f, true);
         j = end_at(index, j);
     }
-    Span {
-        from,
-        cut: j,
-        to: j,
-        had: false,
-        end: AT_END,
-    }
+    span_of(from, j, j, false, AT_END, tally)
 }

@@ -4,6 +4,7 @@ pub mod between;
 pub mod gap;
 pub mod newlines;
 pub mod survey;
+pub mod tally;
 mod turn;
 
 pub use turn::note_kinds;

@@ -2,22 +2,17 @@
 use super::gap::AT_CHILD;
 use super::gap::AT_FOREIGN;
 use super::gap::Span;
+use super::gap::ended_by;
 use super::gap::gap;
 use super::gap::lead;
 use super::newlines::newlines_at;
 use super::newlines::waiting_newlines;
-use super::turn::note_kinds;
 use tree::access::end_at;
-use tree::access::nth_of;
-use tree::class::Class;
 use tree::class::Kinds;
-use tree::class::kinds_of;
-use tree::is_nothing;
 ghost use mathlib.Core.Path.{_≡_};
 ghost use mathlib.Core.Bool.{false};
 ghost use Rattle.text.specs.Basic.{isNil};
-ghost use Rattle.tree.specs.Class.{allOf};
-ghost use Rattle.tree.specs.Index.{partsFrom, Region};
+ghost use Rattle.tree.specs.Index.{Region};
 ghost use Rattle.children.specs.Lead.{SurveyedAfter};
 ghost use Rattle.children.specs.Spans.{Lies, gapAt, Surveying, Surveyed, SurveyedFrom};
 
@@ -30,22 +25,12 @@ pub struct Outline {
     pub last: Span,
 }
 
-// Whether no sibling from a up to b is of these kinds.
-fn none_of(image: &[u8], index: &[u32], w: Kinds, a: u32, b: u32) -> bool
-    requires { ⌜ Region (now image) (now index) a b ⌝ }
-    ensures { λ r. ⌜ r ≡ isNil (allOf w (partsFrom (now (image .entry)) (now (index .entry)) a b)) ⌝ }
-{
-    is_nothing(nth_of(image, index, w, 0, a, b))
-}
-
 // Whether nothing waits in a gap.
 pub fn nothing_waits(image: &[u8], index: &[u32], s: Span) -> bool
     requires { ⌜ Lies (now image) (now index) s ⌝ }
     ensures { λ r. ⌜ r ≡ isNil (gapAt (now (image .entry)) (now (index .entry)) s .waiting) ⌝ }
 {
-    let x = none_of(image, index, kinds_of(Class::CustomError), s.from, s.cut);
-    let y = none_of(image, index, note_kinds(), s.cut, s.to);
-    x & y
+    !s.tally.waits
 }
 
 // The rest of a reading up to b, from a gap on, behind some children of which one triggers many lines or none.
@@ -101,19 +86,6 @@ fn alone(s: Span, blank: bool) -> Outline
     }
 }
 
-// A gap before a child that something bars: the child is the foreign element.
-fn barred(s: Span) -> Span
-    ensures { λ r. ⌜ r ≡ record { from = s .from; cut = s .cut; to = s .to; had = s .had; end = 2 } ⌝ }
-{
-    Span {
-        from: s.from,
-        cut: s.cut,
-        to: s.to,
-        had: s.had,
-        end: AT_FOREIGN,
-    }
-}
-
 // The whole of a reading from `from` up to b whose trailing list is what waits in the gap t.
 pub fn survey_after(
     image: &[u8],
@@ -133,7 +105,8 @@ pub fn survey_after(
         return alone(s, waiting_newlines(image, index, s) >= 2);
     }
     if !nothing_waits(image, index, s) {
-        return alone(barred(s), false);
+        let barred = ended_by(s, AT_FOREIGN);
+        return alone(barred, false);
     }
     let many = waiting_newlines(image, index, t) >= 1;
     let next = gap(image, index, w, loose, true, end_at(index, s.to), b);

@@ -11,7 +11,7 @@ ghost use Rattle.text.specs.Basic.{count};
 ghost use Rattle.tree.specs.Class.{ofKind};
 ghost use Rattle.tree.specs.Index.{textAt, partAt};
 ghost use Rattle.children.specs.Stretch.{notes};
-ghost use Rattle.children.specs.Gaps.{turn, triviaTurn, otherTurn, code, startedBy, hadBy, followsBy};
+ghost use Rattle.children.specs.Gaps.{turn, triviaTurn, otherTurn, code, startedBy, hadBy, followsBy, spaceIn};
 
 // Inline trivia.
 pub const INLINE: u32 = 0;
@@ -59,10 +59,31 @@ pub fn note_kinds() -> Kinds
 }
 
 // How many line feeds there are in the text of element i.
-pub fn line_feeds_of(image: &[u8], index: &[u32], i: u32) -> usize
+fn line_feeds_of(image: &[u8], index: &[u32], i: u32) -> usize
     ensures { λ r. ⌜ r ≡ count 10 (textAt (now (image .entry)) (now (index .entry)) i) ⌝ }
 {
     text::line_feeds(text_at(image, index, i))
+}
+
+// The line feeds of element j, if it is whitespace.
+pub fn space_of(image: &[u8], index: &[u32], j: u32) -> usize
+    ensures { λ r. ⌜ r ≡ spaceIn (partAt (now (image .entry)) (now (index .entry)) j) ⌝ }
+{
+    if kind_at(index, j) == kind::WHITESPACE {
+        return line_feeds_of(image, index, j);
+    }
+    0
+}
+
+// The line feeds of element j, whose line feeds are f if it is whitespace.
+fn feeds_of(image: &[u8], index: &[u32], j: u32, f: usize) -> usize
+    requires { ⌜ f ≡ spaceIn (partAt (now image) (now index) j) ⌝ }
+    ensures { λ r. ⌜ r ≡ count 10 (textAt (now (image .entry)) (now (index .entry)) j) ⌝ }
+{
+    if kind_at(index, j) == kind::WHITESPACE {
+        return f;
+    }
+    line_feeds_of(image, index, j)
 }
 
 // Whether all is to wait from here on.
@@ -86,8 +107,9 @@ pub fn follows_by(t: u32, started: bool) -> bool
     (t <= LAST) | ((t != WAIT) & (t != OVER) & !started)
 }
 
-// What the trivia j does to a gap.
-fn trivia_turn(image: &[u8], index: &[u32], started: bool, j: u32) -> u32
+// What the trivia j does to a gap; its line feeds are f if it is whitespace.
+fn trivia_turn(image: &[u8], index: &[u32], started: bool, j: u32, f: usize) -> u32
+    requires { ⌜ f ≡ spaceIn (partAt (now image) (now index) j) ⌝ }
     ensures { λ r. ⌜ r ≡ code (triviaTurn started (partAt (now (image .entry)) (now (index .entry)) j)) ⌝ }
 {
     if started {
@@ -96,7 +118,7 @@ fn trivia_turn(image: &[u8], index: &[u32], started: bool, j: u32) -> u32
     if of_class(Class::SingleLine, kind_at(index, j)) {
         return LAST;
     }
-    if line_feeds_of(image, index, j) >= 1 {
+    if feeds_of(image, index, j, f) >= 1 {
         return WAIT;
     }
     INLINE
@@ -118,7 +140,7 @@ fn other_turn(loose: bool, had: bool, k: u32) -> u32
     FOREIGN
 }
 
-// What element j does to a gap.
+// What element j does to a gap; its line feeds are f if it is whitespace.
 pub fn turn_of(
     image: &[u8],
     index: &[u32],
@@ -127,7 +149,9 @@ pub fn turn_of(
     started: bool,
     had: bool,
     j: u32,
+    f: usize,
 ) -> u32
+    requires { ⌜ f ≡ spaceIn (partAt (now image) (now index) j) ⌝ }
     ensures { λ r. ⌜ r ≡ code (turn w loose started had (partAt (now (image .entry)) (now (index .entry)) j)) ⌝ }
 {
     let k = kind_at(index, j);
@@ -135,7 +159,7 @@ pub fn turn_of(
         return CHILD;
     }
     if of_class(Class::Trivia, k) {
-        return trivia_turn(image, index, started, j);
+        return trivia_turn(image, index, started, j, f);
     }
     if of_class(Class::CustomError, k) {
         return ERROR;

@@ -1,10 +1,12 @@
 -- The loop of `plan_all`, the lists that a gap's numbers mean, and plannings that a test picks.
 use mathlib.Core.Path.{_≡_, refl, sym, _∙_}
-use mathlib.Core.Bool.{Bool, true, false, cond, false≢true}
+use mathlib.Core.Bool.{Bool, true, false, cond, not, _||_, false≢true}
 use mathlib.Core.List.{List, [], _∷_, _++_}
 use Prim.Native.Nat.{ℕ, _-_, _<_, _≤_}
 use native.Mathlib.Omega.{arith}
-use Rattle.text.specs.Basic.{isNil}
+use lib.Dec.{eqb}
+use borrow.Author.Tests.{not-true, not-false}
+use Rattle.text.specs.Basic.{isNil, any}
 use Rattle.items.specs.Item.{Test, Item, Print, _⨟_, none, says, say, lit, when}
 use Rattle.comments.specs.Comments.{Location, comment}
 use Rattle.plan.specs.Comments.{comments}
@@ -16,7 +18,8 @@ use Rattle.tree.specs.Index.{Region, kindAt, partAt, partsFrom, endAt}
 use Rattle.tree.proofs.Siblings.{region-part, region-past, region-next, parts-over}
 use Rattle.children.specs.declared.gap.Span.{Span}
 use Rattle.children.specs.Stretch.{inlineIn, waitingIn, notes as noteKinds}
-use Rattle.children.specs.Spans.{gapAt}
+use Rattle.children.specs.Tally.{speaks}
+use Rattle.children.specs.Spans.{Lies, gapAt}
 use Rattle.plan.specs.Ops.{Source, sourceAt, token, note, operandLimit}
 use Rattle.plan.specs.Plans.{Planned, planning, Held, Plans}
 use Rattle.plan.proofs.Laws.{planning-seq, planning-none, idle, _▸_, by, as-planned}
@@ -97,6 +100,33 @@ module _ {image index : List ℕ} {w : Kinds} {from b : ℕ} {loc : Location} {o
       region = region-next (K .region) lt;
       rest = λ r. K .rest (rw (region-part (K .region) lt, all-first w (partAt image index j)) (notes-both (sourceAt image index) loc _ _ h r));
     })
+
+-- ---- whitespace
+
+or-none : (a b : Bool) → (a || b) ≡ false → (a ≡ false) × (b ≡ false)
+or-none true b e = absurd (false≢true (sym e))
+or-none false b e = (refl, e)
+
+-- whitespace plans nothing
+space-one : (s : Source) (x : Part) (loc : Location) {o : Held} → speaks x ≡ false → Plans s (says (comment (x .kind) (x .text) loc)) o o
+unfolding comment says none
+space-one s x loc e = rw (not-false (eqb (x .kind) 64) e) (by refl idle)
+
+space-planned : (s : Source) (xs : List Part) (loc : Location) {o : Held} → any speaks xs ≡ false → Plans s (comments xs loc) o o
+unfolding any comments
+space-planned s [] loc e = idle
+space-planned s (x ∷ xs) loc e = let (p, q) = or-none (speaks x) (any speaks xs) e in space-one s x loc p ▸ space-planned s xs loc q
+
+-- a gap of whitespace only
+module _ {image index : List ℕ} {g : Span} (h : Lies image index g) (e : not (g .tally .noted) ≡ true) where
+  silent : (any speaks (gapAt image index g .inline) ≡ false) × (any speaks (gapAt image index g .waiting) ≡ false)
+  silent = or-none _ _ (sym (h .tells .noted) ∙ not-true (g .tally .noted) e)
+
+  pub inline-silent : (s : Source) (loc : Location) {o : Held} → Plans s (comments (gapAt image index g .inline) loc) o o
+  inline-silent s loc = space-planned s _ loc (silent .0)
+
+  pub waiting-silent : (s : Source) (loc : Location) {o : Held} → Plans s (comments (gapAt image index g .waiting) loc) o o
+  waiting-silent s loc = space-planned s _ loc (silent .1)
 
 -- ---- a gap's lists
 

@@ -60,7 +60,7 @@ fn plan_all(
     }
 }
 
-// Plans the inline trivia of a gap.
+// Plans the inline trivia of a gap: nothing, where there is whitespace only.
 pub fn plan_inline(
     ops: &mut [u32],
     cells: &mut [u32; 8],
@@ -72,11 +72,14 @@ pub fn plan_inline(
     requires { ⌜ Lies (now image) (now index) g ⌝ }
     ensures { λ _. ⌜ PlansIn ops cells image index (comments (gapAt (now (image .entry)) (now (index .entry)) g .inline) (place loc)) ⌝ }
 {
+    if !g.tally.noted {
+        return;
+    }
     let w = kinds_of(Class::Trivia);
     plan_all(ops, cells, image, index, w, g.from, g.cut, loc);
 }
 
-// Plans what waits in a gap: the custom errors before the cut, and all behind it.
+// Plans what waits in a gap: the custom errors before the cut, and all behind it; nothing, where there is whitespace only.
 pub fn plan_waiting(
     ops: &mut [u32],
     cells: &mut [u32; 8],
@@ -88,6 +91,9 @@ pub fn plan_waiting(
     requires { ⌜ Lies (now image) (now index) g ⌝ }
     ensures { λ _. ⌜ PlansIn ops cells image index (comments (gapAt (now (image .entry)) (now (index .entry)) g .waiting) (place loc)) ⌝ }
 {
+    if !g.tally.noted {
+        return;
+    }
     let w = kinds_of(Class::CustomError);
     plan_all(ops, cells, image, index, w, g.from, g.cut, loc);
     let v = note_kinds();

@@ -68,9 +68,9 @@ outlined-count n x e = rw (x .is) (x .count ∙ e)
 -- ---- gaps
 
 -- a gap before which nothing came
-module _ (index image : List ℕ) (s : Span) {t : Span} (e : t ≡ record { from = s .from; cut = s .cut; to = s .to; had = false; end = s .end }) where
+module _ (index image : List ℕ) (s : Span) {t : Span} (e : t ≡ record { from = s .from; cut = s .cut; to = s .to; had = false; end = s .end; tally = s .tally }) where
   pub unasked-lies : Lies image index s → Lies image index t
-  unasked-lies h = rw e (record { first = h .first; second = h .second })
+  unasked-lies h = rw e (record { first = h .first; second = h .second; tells = h .tells; few = h .few })
 
   -- its child asks for no blank line
   pub unasked-around : (pr : ℕ → Print) (f g : Bool → Print) (j : ℕ) (b : Gap) (m : Bool) → around pr f g (gapOf [] (gapAt image index s .waiting) false) j b m ≡ around pr f g (gapAt image index t) j b m

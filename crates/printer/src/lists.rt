@@ -352,14 +352,16 @@ pub fn is_empty(image: &[u8], index: &[u32], o: Outline) -> bool
 
 // A gap before which nothing came: its child asks for no blank line.
 pub fn unasked(s: Span) -> Span
-    ensures { λ r. ⌜ r ≡ record { from = s .from; cut = s .cut; to = s .to; had = false; end = s .end } ⌝ }
+    ensures { λ r. ⌜ r ≡ record { from = s .from; cut = s .cut; to = s .to; had = false; end = s .end; tally = s .tally } ⌝ }
 {
+    let tally = s.tally;
     Span {
         from: s.from,
         cut: s.cut,
         to: s.to,
         had: false,
         end: s.end,
+        tally,
     }
 }
 

@@ -1,4 +1,4 @@
-use Rattle.children.proofs.Sums.{blank-is}
+use Rattle.children.proofs.Surveying.{blank-is}
 use borrow.Author.Needs.{needs}
 use Rattle.children.proofs.newlines.blank_line.Statement.{statement}
 use Rattle.children.proofs.newlines.blank_line.Tie as tie

@@ -12,7 +12,7 @@ survey-after-spec =
     (λ c κs. search needs)  -- alone-requires
     (λ c. search after-alone)  -- returns
     (λ c κs. search needs)  -- nothing-waits-requires
-    (λ c κs. search needs)  -- barred-requires
+    (λ c κs. search needs)  -- ended-by-requires
     (λ c κs. search needs)  -- alone-requires-2
     (λ c. search after-barred)  -- returns-2
     (λ c κs. search needs)  -- waiting-newlines-requires-2

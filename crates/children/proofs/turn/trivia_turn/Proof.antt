@@ -11,7 +11,7 @@ trivia-turn-spec =
     (λ c κs. search needs)  -- kind-at-requires
     (λ c κs. search needs)  -- of-class-requires
     (λ c. search trivia-last)  -- returns-2
-    (λ c κs. search needs)  -- line-feeds-of-requires
+    (λ c κs. search needs)  -- feeds-of-requires
     (λ c. search trivia-breaks)  -- returns-3
     (λ c. search trivia-inline)  -- returns-4
     )

@@ -1,7 +1,7 @@
-use Rattle.children.proofs.Sums.{space-yes, space-no}
+use Rattle.children.proofs.Turns.{space-yes, space-no}
 use borrow.Author.Needs.{needs}
-use Rattle.children.proofs.newlines.space_of.Statement.{statement}
-use Rattle.children.proofs.newlines.space_of.Tie as tie
+use Rattle.children.proofs.turn.space_of.Statement.{statement}
+use Rattle.children.proofs.turn.space_of.Tie as tie
 
 pub space-of-spec : {M : Type 1} → statement M
 space-of-spec =
