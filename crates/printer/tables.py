@@ -2,11 +2,11 @@
 """Writes the tables of crates `plan` and `printer` from the readable list of rows.
 
 The list is `rows` in specs/Layout.antt: for each kind of node with a fixed layout, the pieces that it prints. From it follow the
-numbers of wanted parts and pieces (specs/Rows.antt) and the code's tables over them (src/rows.rt), and the numbers of texts, which
-the writer of a plan knows (crate `plan`: specs/Words.antt, src/words.rt). A text that the code prints by itself has a constant in
-src/words.rt, and stands in FIXED below at the constant's number.
+numbers of wanted parts and pieces (specs/Rows.antt), the code's tables over them (src/rows.rt) with a line of proof for each entry
+(proofs/rows), and the numbers of texts, which the writer of a plan knows (crate `plan`: specs/Words.antt, src/words.rt). A text
+that the code prints by itself has a constant in src/words.rt, and stands in FIXED below at the constant's number.
 
-    crates/printer/tables.py            writes the four files
+    crates/printer/tables.py            writes these files
     crates/printer/tables.py --check    names the files that would change, and changes none
 
 After it come `rt fmt` and `rt check printer`, which proves that the tables are those of the definitions.
@@ -26,8 +26,8 @@ FIXED = ["", ",", " ", "[ ]", "[", "]", "{ }", "{", "}", "(", ")", "local", "loc
 TEXT, NEW_LINE, INDENT, OUTDENT, PART, EACH, EACH_ENDED, PLUS = range(8)
 SIGNALS = {"NewLine": NEW_LINE, "StartIndent": INDENT, "FinishIndent": OUTDENT}
 
-# Kinds of nodes are smaller; pieces a line of the code's table; characters a line of a definition.
-NODES, PIECES, WIDTH = 64, 15, 140
+# Kinds of nodes are smaller; characters a line of a definition.
+NODES, WIDTH = 64, 140
 
 
 # ---- reading the list
@@ -168,15 +168,39 @@ def array(text, name, numbers):
     return replaced(text, rf"const {name}: \[[^\]]*\] = \[(.*?)\];", listed_numbers)
 
 
+def row_entries(tables):
+    starts = [min([s for k, s in tables.starts.items() if k >= kind], default=len(tables.pieces)) for kind in range(NODES + 1)]
+    return list(zip(starts, starts[1:]))
+
+
+def piece_entries(tables):
+    return tables.pieces
+
+
+def want_entries(tables):
+    return [[*kinds(c), place] for c, place in tables.wants]
+
+
+# The tables of src/rows.rt: the function that has one, its entries, and the law that an entry is that of its number, by two computed tests.
+CODED = (("row", row_entries, "rowed"), ("piece", piece_entries, "coded"), ("want", want_entries, "want-coded"))
+
+
 def rows_code(tables, text):
-    ends = [min([s for k, s in tables.starts.items() if k >= kind], default=len(tables.pieces)) for kind in range(NODES + 1)]
-    text = array(text, "ROWS", ends)
-    columns = zip(*([*kinds(c), place] for c, place in tables.wants))
-    for name, column in zip(("FROM", "TO", "BUT", "PLACE"), columns):
-        text = array(text, f"WANT_{name}", column)
-    coded = ["".join(chr(48 + place + n) for place, n in enumerate(p)).replace("\\", "\\\\") for p in tables.pieces]
-    lines = ["".join(coded[i:i + PIECES]) for i in range(0, len(coded), PIECES)]
-    return replaced(text, r'let table: &\[u8\] =\s*b"(.*?)";', "\\\n          ".join(lines))
+    """Each entry as one number, eight bits for each of its own numbers, the first of them lowest."""
+    for name, entries, _ in CODED:
+        arms = [f"{i} => 0x{'_'.join(f'{n:02x}' for n in reversed(e))}," for i, e in enumerate(entries(tables))]
+        text = replaced(text, rf"fn {name}_code\(.*?match \w+ {{(.*?)_ => 0,\s*}}", "\n        " + "\n        ".join(arms) + "\n        ")
+    return text
+
+
+def rows_proof(entries, law):
+    """A line for each entry of a table, and one for a number that has none."""
+    def made(tables, text):
+        members = entries(tables)
+        lines = [f"(λ c. {law} {i} (c .match .keys{i + 1}) refl refl)" for i in range(len(members))]
+        lines.append(f"(λ c. no-arm {len(members)} (c .before .pre) (c .match .rest))")
+        return replaced(text, r"\(tie\.spec\n(.*?)    \)\n", "".join(f"    {line}\n" for line in lines))
+    return made
 
 
 def words_code(tables, text):
@@ -187,7 +211,9 @@ def words_code(tables, text):
 
 def main():
     tables, check, status = Tables(LAYOUT.read_text()), "--check" in sys.argv, 0
-    for path, made in ((ROWS, rows_definition), (CODE, rows_code), (TEXTS, words_definition), (WORDS, words_code)):
+    files = [(ROWS, rows_definition), (CODE, rows_code), (TEXTS, words_definition), (WORDS, words_code)]
+    files += [(HERE / f"proofs/rows/{name}_code/Proof.antt", rows_proof(entries, law)) for name, entries, law in CODED]
+    for path, made in files:
         old = path.read_text()
         new = made(tables, old)
         if "".join(old.split()) == "".join(new.split()):

@@ -1,11 +1,9 @@
 // The rows of pieces: what nodes with a fixed layout print.
-use numbers::wide;
 use tree::class::Kinds;
 ghost use mathlib.Core.Path.{_≡_};
-ghost use Prim.Native.Nat.{_*_, _-_, _<_, _≤_};
-ghost use lib.ListN.{length};
+ghost use Prim.Native.Nat.{_<_};
 ghost use Rattle.tree.specs.Class.{kinds};
-ghost use Rattle.printer.specs.Rows.{wantAt, EntryIn, Coded, RowOf, wantCount, pieceCount};
+ghost use Rattle.printer.specs.Rows.{wantAt, bitsAt, entryOf, extentOf, Coded, RowOf, WantOf, wantCount, pieceCount};
 
 // What a piece prints: a text; a newline; an indent; an outdent; a part, or the text if it is missing; all parts of a class;
 // the same, each before a comma and a newline; the `+` of a field.
@@ -33,231 +31,93 @@ pub struct Entry {
     pub word: u32,
 }
 
-// How many numbers a piece has.
-const SIZE: usize = 6;
-
-// The first piece of each kind's row, which ends where the next one begins.
-const ROWS: [u8; 65] = [
-    0,
-    0,
-    0,
-    0,
-    5,
-    7,
-    10,
-    13,
-    14,
-    15,
-    16,
-    16,
-    17,
-    21,
-    24,
-    25,
-    31,
-    35,
-    37,
-    40,
-    44,
-    45,
-    46,
-    46,
-    49,
-    52,
-    56,
-    56,
-    56,
-    57,
-    58,
-    63,
-    68,
-    72,
-    80,
-    82,
-    83,
-    84,
-    90,
-    98,
-    99,
-    101,
-    103,
-    106,
-    107,
-    114,
-    115,
-    116,
-    116,
-    119,
-    125,
-    130,
-    132,
-    136,
-    137,
-    138,
-    145,
-    145,
-    145,
-    145,
-    145,
-    145,
-    145,
-    145,
-    145,
-];
-
-// The kinds of each wanted part, from .. to .. but for one, and which of them it is.
-const WANT_FROM: [u8; 34] = [
-    2,
-    2,
-    91,
-    2,
-    92,
-    73,
-    87,
-    88,
-    26,
-    32,
-    89,
-    43,
-    53,
-    106,
-    54,
-    49,
-    103,
-    44,
-    47,
-    52,
-    35,
-    51,
-    41,
-    56,
-    39,
-    55,
-    40,
-    90,
-    45,
-    46,
-    104,
-    50,
-    24,
-    102,
-];
-
-const WANT_TO: [u8; 34] = [
-    2,
-    2,
-    93,
-    2,
-    93,
-    86,
-    87,
-    88,
-    27,
-    34,
-    89,
-    43,
-    53,
-    106,
-    54,
-    49,
-    103,
-    44,
-    47,
-    52,
-    38,
-    51,
-    42,
-    56,
-    40,
-    55,
-    40,
-    90,
-    45,
-    46,
-    104,
-    50,
-    25,
-    102,
-];
-
-const WANT_BUT: [u8; 34] = [
-    0,
-    0,
-    92,
-    0,
-    0,
-    0,
-    0,
-    0,
-    0,
-    0,
-    0,
-    0,
-    0,
-    0,
-    0,
-    0,
-    0,
-    0,
-    0,
-    0,
-    0,
-    0,
-    0,
-    0,
-    0,
-    0,
-    0,
-    0,
-    0,
-    0,
-    0,
-    0,
-    0,
-    0,
-];
-
-const WANT_PLACE: [u8; 34] = [
-    0,
-    0,
-    0,
-    1,
-    0,
-    0,
-    0,
-    0,
-    0,
-    0,
-    0,
-    0,
-    0,
-    0,
-    0,
-    0,
-    0,
-    0,
-    0,
-    0,
-    0,
-    0,
-    0,
-    0,
-    0,
-    0,
-    0,
-    0,
-    0,
-    0,
-    0,
-    0,
-    0,
-    0,
-];
-
 // The pieces of a row, from one to before another.
 pub struct Extent {
     pub start: u32,
     pub end: u32,
+}
+
+// The eight bits of a table's number from a place on.
+fn bits_at(code: u64, place: u32) -> u32
+    requires { ⌜ place < 64 ⌝ }
+    ensures { λ r. ⌜ r ≡ bitsAt code place ⌝ }
+{
+    ((code >> place) % 256) as u32
+}
+
+// The table of rows: from the lowest bits on, the first piece of the kind's row, and the one behind its last. A `match` of constants
+// is one load from a table that lies ready, where an array would be laid out anew at each call.
+fn row_code(k: u32) -> u64
+    requires { ⌜ k < 64 ⌝ }
+    ensures { λ r. ⌜ RowOf k (extentOf r) ⌝ }
+{
+    match k {
+        0 => 0x00_00,
+        1 => 0x00_00,
+        2 => 0x00_00,
+        3 => 0x05_00,
+        4 => 0x07_05,
+        5 => 0x0a_07,
+        6 => 0x0d_0a,
+        7 => 0x0e_0d,
+        8 => 0x0f_0e,
+        9 => 0x10_0f,
+        10 => 0x10_10,
+        11 => 0x11_10,
+        12 => 0x15_11,
+        13 => 0x18_15,
+        14 => 0x19_18,
+        15 => 0x1f_19,
+        16 => 0x23_1f,
+        17 => 0x25_23,
+        18 => 0x28_25,
+        19 => 0x2c_28,
+        20 => 0x2d_2c,
+        21 => 0x2e_2d,
+        22 => 0x2e_2e,
+        23 => 0x31_2e,
+        24 => 0x34_31,
+        25 => 0x38_34,
+        26 => 0x38_38,
+        27 => 0x38_38,
+        28 => 0x39_38,
+        29 => 0x3a_39,
+        30 => 0x3f_3a,
+        31 => 0x44_3f,
+        32 => 0x48_44,
+        33 => 0x50_48,
+        34 => 0x52_50,
+        35 => 0x53_52,
+        36 => 0x54_53,
+        37 => 0x5a_54,
+        38 => 0x62_5a,
+        39 => 0x63_62,
+        40 => 0x65_63,
+        41 => 0x67_65,
+        42 => 0x6a_67,
+        43 => 0x6b_6a,
+        44 => 0x72_6b,
+        45 => 0x73_72,
+        46 => 0x74_73,
+        47 => 0x74_74,
+        48 => 0x77_74,
+        49 => 0x7d_77,
+        50 => 0x82_7d,
+        51 => 0x84_82,
+        52 => 0x88_84,
+        53 => 0x89_88,
+        54 => 0x8a_89,
+        55 => 0x91_8a,
+        56 => 0x91_91,
+        57 => 0x91_91,
+        58 => 0x91_91,
+        59 => 0x91_91,
+        60 => 0x91_91,
+        61 => 0x91_91,
+        62 => 0x91_91,
+        63 => 0x91_91,
+        _ => 0,
+    }
 }
 
 // The pieces of a kind's row.
@@ -265,34 +125,165 @@ pub fn row_of(k: u32) -> Extent
     requires { ⌜ k < 64 ⌝ }
     ensures { λ r. ⌜ RowOf k r ⌝ }
 {
-    let at = k as usize;
+    let code = row_code(k);
     Extent {
-        start: wide::from_u8(ROWS[at]),
-        end: wide::from_u8(ROWS[at + 1]),
+        start: bits_at(code, 0),
+        end: bits_at(code, 8),
     }
 }
 
-// A number as it stands in the table of pieces: the character that lies so far behind the zero of its place.
-fn value(b: u8, zero: u8) -> u32
-    ensures { λ r. ⌜ r ≡ b - zero ⌝ }
-{
-    if b < zero { 0 } else { (b - zero) as u32 }
-}
-
-// The piece with a number in a table of pieces.
-fn entry_in(table: &[u8], q: u32) -> Entry
+// The table of pieces of all rows in the order of their kinds: the numbers of an entry, from the lowest bits on.
+fn piece_code(q: u32) -> u64
     requires { ⌜ q < pieceCount ⌝ }
-    requires { ⌜ 6 * pieceCount ≤ length (now table) ⌝ }
-    ensures { λ r. ⌜ EntryIn (now (table .entry)) q r ⌝ }
+    ensures { λ r. ⌜ Coded q (entryOf r) ⌝ }
 {
-    let at = (q as usize) * SIZE;
-    Entry {
-        given: value(table[at], b'0'),
-        other: value(table[at + 1], b'1'),
-        unless: value(table[at + 2], b'2'),
-        what: value(table[at + 3], b'3'),
-        want: value(table[at + 4], b'4'),
-        word: value(table[at + 5], b'5'),
+    match q {
+        0 => 0x0f_01_04_00_00_00,
+        1 => 0x02_00_00_00_00_00,
+        2 => 0x10_02_04_00_00_00,
+        3 => 0x02_00_00_00_00_00,
+        4 => 0x0f_03_04_00_00_00,
+        5 => 0x11_04_04_00_00_00,
+        6 => 0x0f_01_04_00_00_00,
+        7 => 0x0f_01_04_00_00_00,
+        8 => 0x02_00_00_00_00_00,
+        9 => 0x0f_03_04_00_00_00,
+        10 => 0x09_00_00_00_00_00,
+        11 => 0x0f_01_04_00_00_00,
+        12 => 0x0a_00_00_00_00_00,
+        13 => 0x12_05_04_00_00_00,
+        14 => 0x13_06_04_00_00_00,
+        15 => 0x14_07_04_00_00_00,
+        16 => 0x15_08_04_00_00_00,
+        17 => 0x04_00_00_00_00_00,
+        18 => 0x0f_01_04_00_00_00,
+        19 => 0x02_09_05_00_00_00,
+        20 => 0x05_00_00_00_00_00,
+        21 => 0x16_0a_04_00_00_00,
+        22 => 0x02_00_00_00_00_00,
+        23 => 0x12_05_04_00_00_00,
+        24 => 0x17_0b_04_00_00_00,
+        25 => 0x18_00_00_00_00_00,
+        26 => 0x0f_01_04_00_00_00,
+        27 => 0x19_00_00_00_00_00,
+        28 => 0x1a_0c_04_00_00_00,
+        29 => 0x1b_00_00_00_0e_0d,
+        30 => 0x1a_0e_04_00_0e_0d,
+        31 => 0x1c_00_00_00_00_00,
+        32 => 0x1d_0f_04_00_00_00,
+        33 => 0x00_00_01_00_00_00,
+        34 => 0x0f_01_04_00_00_00,
+        35 => 0x1e_00_00_00_00_00,
+        36 => 0x0f_01_04_00_00_00,
+        37 => 0x1f_00_00_00_00_10,
+        38 => 0x20_00_00_00_00_00,
+        39 => 0x17_0b_04_00_00_00,
+        40 => 0x21_00_00_00_00_10,
+        41 => 0x04_00_00_00_00_00,
+        42 => 0x0f_01_04_00_00_00,
+        43 => 0x05_00_00_00_00_00,
+        44 => 0x22_11_04_00_00_00,
+        45 => 0x23_12_04_00_00_00,
+        46 => 0x24_13_04_00_00_00,
+        47 => 0x0d_00_00_00_00_00,
+        48 => 0x00_00_01_00_00_00,
+        49 => 0x25_14_04_00_00_00,
+        50 => 0x26_00_00_00_00_00,
+        51 => 0x0f_01_04_00_00_00,
+        52 => 0x17_0b_04_00_00_00,
+        53 => 0x1d_0f_04_00_00_00,
+        54 => 0x26_00_00_00_00_00,
+        55 => 0x0f_01_04_00_00_00,
+        56 => 0x27_15_04_00_00_00,
+        57 => 0x24_13_04_00_00_00,
+        58 => 0x28_16_04_00_00_00,
+        59 => 0x00_00_07_00_00_00,
+        60 => 0x29_17_04_00_00_00,
+        61 => 0x02_00_00_00_00_00,
+        62 => 0x0f_01_04_00_00_00,
+        63 => 0x28_16_04_00_00_00,
+        64 => 0x1d_0f_04_00_00_00,
+        65 => 0x29_17_04_00_00_00,
+        66 => 0x02_00_00_00_00_00,
+        67 => 0x0f_01_04_00_00_00,
+        68 => 0x2a_00_00_00_00_00,
+        69 => 0x25_14_04_00_00_00,
+        70 => 0x2b_00_00_00_00_00,
+        71 => 0x0f_01_04_00_00_00,
+        72 => 0x2c_00_00_00_00_00,
+        73 => 0x17_0b_04_00_00_00,
+        74 => 0x05_00_00_00_00_00,
+        75 => 0x29_17_04_00_00_00,
+        76 => 0x02_00_00_00_00_00,
+        77 => 0x25_14_04_00_00_00,
+        78 => 0x2b_00_00_00_00_00,
+        79 => 0x0f_01_04_00_00_00,
+        80 => 0x18_00_00_00_00_00,
+        81 => 0x0f_01_04_00_00_00,
+        82 => 0x17_0b_04_00_00_00,
+        83 => 0x1f_00_00_00_00_00,
+        84 => 0x04_00_00_00_00_00,
+        85 => 0x00_00_02_00_00_00,
+        86 => 0x00_00_01_00_00_00,
+        87 => 0x00_18_06_00_00_00,
+        88 => 0x00_00_03_00_00_00,
+        89 => 0x05_00_00_00_00_00,
+        90 => 0x07_00_00_00_00_00,
+        91 => 0x00_00_02_00_00_00,
+        92 => 0x00_00_01_00_00_00,
+        93 => 0x00_19_05_00_00_00,
+        94 => 0x00_1a_04_00_00_00,
+        95 => 0x00_00_01_00_00_1a,
+        96 => 0x00_00_03_00_00_00,
+        97 => 0x08_00_00_00_00_00,
+        98 => 0x25_14_04_00_00_00,
+        99 => 0x2d_00_00_00_00_00,
+        100 => 0x00_0b_04_00_00_00,
+        101 => 0x00_0b_04_00_00_00,
+        102 => 0x28_05_04_0b_00_00,
+        103 => 0x04_00_00_00_00_00,
+        104 => 0x0f_01_04_00_00_00,
+        105 => 0x05_00_00_00_00_00,
+        106 => 0x00_1b_04_00_00_00,
+        107 => 0x04_00_00_00_00_00,
+        108 => 0x00_01_04_00_00_00,
+        109 => 0x2e_00_00_00_00_00,
+        110 => 0x00_1c_04_00_00_00,
+        111 => 0x2e_00_00_00_00_1d,
+        112 => 0x00_1d_04_00_00_00,
+        113 => 0x05_00_00_00_00_00,
+        114 => 0x0f_01_04_00_00_00,
+        115 => 0x0f_01_04_00_00_00,
+        116 => 0x17_0b_04_00_1e_0b,
+        117 => 0x26_00_00_00_1e_0b,
+        118 => 0x0f_01_04_00_00_00,
+        119 => 0x09_00_00_00_00_00,
+        120 => 0x00_00_02_00_00_00,
+        121 => 0x00_00_01_00_00_00,
+        122 => 0x00_1f_05_00_00_00,
+        123 => 0x00_00_03_00_00_00,
+        124 => 0x0a_00_00_00_00_00,
+        125 => 0x25_14_04_00_00_00,
+        126 => 0x26_00_00_00_01_1e,
+        127 => 0x0f_01_04_00_01_1e,
+        128 => 0x01_00_00_00_00_00,
+        129 => 0x00_00_01_00_00_00,
+        130 => 0x0c_00_00_00_00_00,
+        131 => 0x2f_20_04_00_00_00,
+        132 => 0x30_00_00_00_00_00,
+        133 => 0x0f_01_04_00_00_00,
+        134 => 0x31_00_00_00_03_21,
+        135 => 0x0f_03_04_00_03_21,
+        136 => 0x0f_01_04_00_00_00,
+        137 => 0x0f_01_04_00_00_00,
+        138 => 0x17_0b_04_00_00_00,
+        139 => 0x31_00_00_00_00_14,
+        140 => 0x00_14_04_00_00_00,
+        141 => 0x26_00_00_00_00_01,
+        142 => 0x00_01_04_00_00_00,
+        143 => 0x01_00_00_00_00_00,
+        144 => 0x00_00_01_00_00_00,
+        _ => 0,
     }
 }
 
@@ -301,20 +292,59 @@ pub fn entry_at(q: u32) -> Entry
     requires { ⌜ q < pieceCount ⌝ }
     ensures { λ r. ⌜ Coded q r ⌝ }
 {
-    // The pieces of all rows in the order of their kinds, six characters each, fifteen pieces a line. The compiler lays the string out
-    // where it is read, and does so in larger parts where no four characters in a row are equal; so each place has its own zero.
-    let table: &[u8] =
-        b"01275D01234701276E01234701277D01278F01275D01275D01234701277D01234>01275D01234?01279G0127:H\
-          0127;I0127<J01234901275D0128=701234:0127>K01234701279G0127?L01234M01275D01234N0127@O=?234P\
-          =?27BO01234Q0127CR01244501275D01234S01275D@1234T01234U0127?L@1234V01234901275D01234:0127EW\
-          0127FX0127GY01234B0124450127HZ01234[01275D0127?L0127CR01234[01275D0127I\\0127GY0127J]012:45\
-          0127K^01234701275D0127J]0127CR0127K^01234701275D01234_0127HZ01234`01275D01234a0127?L01234:\
-          0127K^0123470127HZ01234`01275D01234M01275D0127?L01234T0123490125450124450129L501264501234:\
-          01234<0125450124450128M50127N5J1244501264501234=0127HZ01234b0127?50127?501=79]01234901275D\
-          01234:0127O501234901275501234c0127P5M1234c0127Q501234:01275D01275D;O27?L;O234[01275D01234>\
-          0125450124450128S501264501234?0127HZN2234[N2275D01234601244501234A0127Td01234e01275DQ4234f\
-          Q4277D01275D01275D0127?LD1234f0127H511234[012755012346012445";
-    entry_in(table, q)
+    let code = piece_code(q);
+    Entry {
+        given: bits_at(code, 0),
+        other: bits_at(code, 8),
+        unless: bits_at(code, 16),
+        what: bits_at(code, 24),
+        want: bits_at(code, 32),
+        word: bits_at(code, 40),
+    }
+}
+
+// The table of wanted parts: from the lowest bits on, their kinds, from .. to .. but for one, and which of them it is.
+fn want_code(w: u32) -> u64
+    requires { ⌜ w < wantCount ⌝ }
+    ensures { λ r. ⌜ WantOf w r ⌝ }
+{
+    match w {
+        0 => 0x00_00_02_02,
+        1 => 0x00_00_02_02,
+        2 => 0x00_5c_5d_5b,
+        3 => 0x01_00_02_02,
+        4 => 0x00_00_5d_5c,
+        5 => 0x00_00_56_49,
+        6 => 0x00_00_57_57,
+        7 => 0x00_00_58_58,
+        8 => 0x00_00_1b_1a,
+        9 => 0x00_00_22_20,
+        10 => 0x00_00_59_59,
+        11 => 0x00_00_2b_2b,
+        12 => 0x00_00_35_35,
+        13 => 0x00_00_6a_6a,
+        14 => 0x00_00_36_36,
+        15 => 0x00_00_31_31,
+        16 => 0x00_00_67_67,
+        17 => 0x00_00_2c_2c,
+        18 => 0x00_00_2f_2f,
+        19 => 0x00_00_34_34,
+        20 => 0x00_00_26_23,
+        21 => 0x00_00_33_33,
+        22 => 0x00_00_2a_29,
+        23 => 0x00_00_38_38,
+        24 => 0x00_00_28_27,
+        25 => 0x00_00_37_37,
+        26 => 0x00_00_28_28,
+        27 => 0x00_00_5a_5a,
+        28 => 0x00_00_2d_2d,
+        29 => 0x00_00_2e_2e,
+        30 => 0x00_00_68_68,
+        31 => 0x00_00_32_32,
+        32 => 0x00_00_19_18,
+        33 => 0x00_00_66_66,
+        _ => 0,
+    }
 }
 
 // The kinds of a wanted part.
@@ -322,11 +352,11 @@ pub fn kinds_wanted(w: u32) -> Kinds
     requires { ⌜ w < wantCount ⌝ }
     ensures { λ r. ⌜ r ≡ kinds (wantAt w .class) ⌝ }
 {
-    let at = w as usize;
+    let code = want_code(w);
     Kinds {
-        lo: wide::from_u8(WANT_FROM[at]),
-        hi: wide::from_u8(WANT_TO[at]),
-        but: wide::from_u8(WANT_BUT[at]),
+        lo: bits_at(code, 0),
+        hi: bits_at(code, 8),
+        but: bits_at(code, 16),
     }
 }
 
@@ -335,6 +365,5 @@ pub fn place_wanted(w: u32) -> u32
     requires { ⌜ w < wantCount ⌝ }
     ensures { λ r. ⌜ r ≡ wantAt w .place ⌝ }
 {
-    let at = w as usize;
-    wide::from_u8(WANT_PLACE[at])
+    bits_at(want_code(w), 24)
 }
