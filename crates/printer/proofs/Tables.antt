@@ -74,6 +74,6 @@ coded-by n h i j k l m o = rw (i, j, k, l, m, o) h
 pub rowed : (k : ℕ) {q : ℕ} {r : Extent} → q ≡ k → take (r .end - r .start) (drop (r .start) allPieces) ≡ layout k → leb (r .end) pieceCount ≡ true → RowOf q r
 rowed k {q} {r} e p b = rw e (record { pieces-of = p; within = leb-true (r .end) pieceCount b })
 
--- its two numbers, each by itself
-pub rowed-by : (n : ℕ) {q a b : ℕ} → RowOf q (extentOf n) → a ≡ bitsAt n 0 → b ≡ bitsAt n 8 → RowOf q (record { start = a; end = b })
-rowed-by n h e f = rw (e, f) h
+-- its numbers, each by itself
+pub rowed-by : (n : ℕ) {q a b d : ℕ} → RowOf q (extentOf n) → a ≡ bitsAt n 0 → b ≡ bitsAt n 8 → d ≡ bitsAt n 16 → RowOf q (record { start = a; end = b; marks = d })
+rowed-by n h e f g = rw (e, f, g) h

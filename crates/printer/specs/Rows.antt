@@ -7,18 +7,20 @@ use Prim.Native.String.{String}
 use lib.Dec.{leb, eqb}
 use lib.ListN.{getD, take, drop}
 use Rattle.items.specs.declared.Signal.the-variants.{NewLine, StartIndent, FinishIndent}
+use Rattle.text.specs.Basic.{any}
+use Rattle.tree.specs.Tree.{Part}
 use Rattle.tree.specs.declared.class.Class.the-variants as Class
 use Rattle.tree.specs.declared.class.Kinds.{Kinds}
-use Rattle.tree.specs.Class.{kinds}
+use Rattle.tree.specs.Class.{kinds, ofKind, is}
 use Rattle.plan.specs.Words.{wordAt, wordCount}
 use Rattle.printer.specs.declared.rows.Entry.{Entry}
 use Rattle.printer.specs.declared.rows.Extent.{Extent}
 use Rattle.printer.specs.Layout.{Want, What, txt, bare, part, opt, each, plus, Piece, Row, firstOf, secondOf, t, rows, layout}
 
--- the parts that rows want, by their numbers from 1
+-- the parts that rows want, by their numbers from 1; number 0 is the operators, of which the `+` of a field is one
 unfoldable pub wants : List Want
 wants =
-    firstOf Class.Expr ∷ firstOf Class.Expr ∷ firstOf Class.BinaryOperator ∷ secondOf Class.Expr ∷ firstOf Class.UnaryOperator ∷ firstOf Class.Text
+    firstOf Class.Operator ∷ firstOf Class.Expr ∷ firstOf Class.BinaryOperator ∷ secondOf Class.Expr ∷ firstOf Class.UnaryOperator ∷ firstOf Class.Text
     ∷ firstOf Class.Number ∷ firstOf Class.Literal ∷ firstOf Class.ObjBody ∷ firstOf Class.CompSpec ∷ firstOf Class.ImportKind ∷ firstOf Class.Name
     ∷ firstOf Class.TrueExpr ∷ firstOf Class.Else ∷ firstOf Class.FalseExpr ∷ firstOf Class.ParamsDesc ∷ firstOf Class.Question
     ∷ firstOf Class.SliceDesc ∷ firstOf Class.ArgsDesc ∷ firstOf Class.Assertion ∷ firstOf Class.Destruct ∷ firstOf Class.ObjLocal
@@ -81,7 +83,7 @@ entryOf n = record { given = bitsAt n 0; other = bitsAt n 8; unless = bitsAt n 1
 
 -- the row that stands in it
 abbrev pub extentOf : ℕ → Extent
-extentOf n = record { start = bitsAt n 0; end = bitsAt n 8 }
+extentOf n = record { start = bitsAt n 0; end = bitsAt n 8; marks = bitsAt n 16 }
 
 -- the kinds that stand in it
 abbrev pub kindsIn : ℕ → Kinds
@@ -106,3 +108,17 @@ pub record RowOf (k : ℕ) (r : Extent) : Type 0 where
 pub record WantOf (w n : ℕ) : Type 0 where
   pub class-kinds : kindsIn n ≡ kinds (wantAt w .class)
   pub which : bitsAt n 24 ≡ wantAt w .place
+
+-- ---- marks: a bit for each wanted part that may be there
+
+-- bit w of a number is set
+abbrev pub marked : ℕ → ℕ → Bool
+marked m w = eqb (m / 2 ^ w % 2) 1
+
+-- Where bit w of m is not set, the kind k is not of the class of wanted part w.
+pub record MarksOf (k m : ℕ) : Type 0 where
+  pub absent : (w : ℕ) → w < wantCount → marked m w ≡ false → ofKind (wantAt w .class) k ≡ false
+
+-- Where bit w of m is not set, none of the parts is.
+pub record Marks (ps : List Part) (m : ℕ) : Type 0 where
+  pub absent : (w : ℕ) → w < wantCount → marked m w ≡ false → any (is (wantAt w .class)) ps ≡ false

@@ -3,7 +3,7 @@ use tree::class::Kinds;
 ghost use mathlib.Core.Path.{_≡_};
 ghost use Prim.Native.Nat.{_<_};
 ghost use Rattle.tree.specs.Class.{kinds};
-ghost use Rattle.printer.specs.Rows.{wantAt, bitsAt, entryOf, extentOf, Coded, RowOf, WantOf, wantCount, pieceCount};
+ghost use Rattle.printer.specs.Rows.{wantAt, bitsAt, entryOf, extentOf, Coded, RowOf, WantOf, MarksOf, wantCount, pieceCount};
 
 // What a piece prints: a text; a newline; an indent; an outdent; a part, or the text if it is missing; all parts of a class;
 // the same, each before a comma and a newline; the `+` of a field.
@@ -31,11 +31,18 @@ pub struct Entry {
     pub word: u32,
 }
 
-// The pieces of a row, from one to before another.
+// The pieces of a row, from one to before another, and 1 if the parts of its node are marked first.
 pub struct Extent {
     pub start: u32,
     pub end: u32,
+    pub marks: u32,
 }
+
+// Marks of a node's parts: a bit for each wanted part that may be there, by its number; all of them; the number of operators, of which
+// the `+` of a field is one.
+pub const ALL_MARKS: u64 = 0xffff_ffff_ffff_ffff;
+
+pub const OPERATORS: u32 = 0;
 
 // The eight bits of a table's number from a place on.
 fn bits_at(code: u64, place: u32) -> u32
@@ -45,77 +52,77 @@ fn bits_at(code: u64, place: u32) -> u32
     ((code >> place) % 256) as u32
 }
 
-// The table of rows: from the lowest bits on, the first piece of the kind's row, and the one behind its last. A `match` of constants
-// is one load from a table that lies ready, where an array would be laid out anew at each call.
+// The table of rows: from the lowest bits on, the first piece of the kind's row, the one behind its last, and whether parts
+// are marked. A `match` of constants is one load from a table that lies ready, where an array would be laid out anew at each call.
 fn row_code(k: u32) -> u64
     requires { ⌜ k < 64 ⌝ }
     ensures { λ r. ⌜ RowOf k (extentOf r) ⌝ }
 {
     match k {
-        0 => 0x00_00,
-        1 => 0x00_00,
-        2 => 0x00_00,
-        3 => 0x05_00,
-        4 => 0x07_05,
-        5 => 0x0a_07,
-        6 => 0x0d_0a,
-        7 => 0x0e_0d,
-        8 => 0x0f_0e,
-        9 => 0x10_0f,
-        10 => 0x10_10,
-        11 => 0x11_10,
-        12 => 0x15_11,
-        13 => 0x18_15,
-        14 => 0x19_18,
-        15 => 0x1f_19,
-        16 => 0x23_1f,
-        17 => 0x25_23,
-        18 => 0x28_25,
-        19 => 0x2c_28,
-        20 => 0x2d_2c,
-        21 => 0x2e_2d,
-        22 => 0x2e_2e,
-        23 => 0x31_2e,
-        24 => 0x34_31,
-        25 => 0x38_34,
-        26 => 0x38_38,
-        27 => 0x38_38,
-        28 => 0x39_38,
-        29 => 0x3a_39,
-        30 => 0x3f_3a,
-        31 => 0x44_3f,
-        32 => 0x48_44,
-        33 => 0x50_48,
-        34 => 0x52_50,
-        35 => 0x53_52,
-        36 => 0x54_53,
-        37 => 0x5a_54,
-        38 => 0x62_5a,
-        39 => 0x63_62,
-        40 => 0x65_63,
-        41 => 0x67_65,
-        42 => 0x6a_67,
-        43 => 0x6b_6a,
-        44 => 0x72_6b,
-        45 => 0x73_72,
-        46 => 0x74_73,
-        47 => 0x74_74,
-        48 => 0x77_74,
-        49 => 0x7d_77,
-        50 => 0x82_7d,
-        51 => 0x84_82,
-        52 => 0x88_84,
-        53 => 0x89_88,
-        54 => 0x8a_89,
-        55 => 0x91_8a,
-        56 => 0x91_91,
-        57 => 0x91_91,
-        58 => 0x91_91,
-        59 => 0x91_91,
-        60 => 0x91_91,
-        61 => 0x91_91,
-        62 => 0x91_91,
-        63 => 0x91_91,
+        0 => 0x00_00_00,
+        1 => 0x00_00_00,
+        2 => 0x00_00_00,
+        3 => 0x00_05_00,
+        4 => 0x00_07_05,
+        5 => 0x00_0a_07,
+        6 => 0x00_0d_0a,
+        7 => 0x00_0e_0d,
+        8 => 0x00_0f_0e,
+        9 => 0x00_10_0f,
+        10 => 0x00_10_10,
+        11 => 0x00_11_10,
+        12 => 0x00_15_11,
+        13 => 0x00_18_15,
+        14 => 0x00_19_18,
+        15 => 0x01_1f_19,
+        16 => 0x00_23_1f,
+        17 => 0x00_25_23,
+        18 => 0x00_28_25,
+        19 => 0x00_2c_28,
+        20 => 0x00_2d_2c,
+        21 => 0x00_2e_2d,
+        22 => 0x00_2e_2e,
+        23 => 0x00_31_2e,
+        24 => 0x00_34_31,
+        25 => 0x00_38_34,
+        26 => 0x00_38_38,
+        27 => 0x00_38_38,
+        28 => 0x00_39_38,
+        29 => 0x00_3a_39,
+        30 => 0x01_3f_3a,
+        31 => 0x00_44_3f,
+        32 => 0x00_48_44,
+        33 => 0x00_50_48,
+        34 => 0x00_52_50,
+        35 => 0x00_53_52,
+        36 => 0x00_54_53,
+        37 => 0x00_5a_54,
+        38 => 0x01_62_5a,
+        39 => 0x00_63_62,
+        40 => 0x00_65_63,
+        41 => 0x01_67_65,
+        42 => 0x00_6a_67,
+        43 => 0x00_6b_6a,
+        44 => 0x01_72_6b,
+        45 => 0x00_73_72,
+        46 => 0x00_74_73,
+        47 => 0x00_74_74,
+        48 => 0x01_77_74,
+        49 => 0x00_7d_77,
+        50 => 0x01_82_7d,
+        51 => 0x00_84_82,
+        52 => 0x01_88_84,
+        53 => 0x00_89_88,
+        54 => 0x00_8a_89,
+        55 => 0x01_91_8a,
+        56 => 0x00_91_91,
+        57 => 0x00_91_91,
+        58 => 0x00_91_91,
+        59 => 0x00_91_91,
+        60 => 0x00_91_91,
+        61 => 0x00_91_91,
+        62 => 0x00_91_91,
+        63 => 0x00_91_91,
         _ => 0,
     }
 }
@@ -129,6 +136,7 @@ pub fn row_of(k: u32) -> Extent
     Extent {
         start: bits_at(code, 0),
         end: bits_at(code, 8),
+        marks: bits_at(code, 16),
     }
 }
 
@@ -309,7 +317,7 @@ fn want_code(w: u32) -> u64
     ensures { λ r. ⌜ WantOf w r ⌝ }
 {
     match w {
-        0 => 0x00_00_02_02,
+        0 => 0x00_00_5d_5b,
         1 => 0x00_00_02_02,
         2 => 0x00_5c_5d_5b,
         3 => 0x01_00_02_02,
@@ -366,4 +374,121 @@ pub fn place_wanted(w: u32) -> u32
     ensures { λ r. ⌜ r ≡ wantAt w .place ⌝ }
 {
     bits_at(want_code(w), 24)
+}
+
+// The table of marks: for each kind the wanted parts whose class it is of.
+pub fn marks_of(k: u32) -> u64
+    ensures { λ r. ⌜ MarksOf k r ⌝ }
+{
+    match k {
+        0 => 0x0,
+        1 => 0x0,
+        2 => 0xa,
+        3 => 0x0,
+        4 => 0x0,
+        5 => 0x0,
+        6 => 0x0,
+        7 => 0x0,
+        8 => 0x0,
+        9 => 0x0,
+        10 => 0x0,
+        11 => 0x0,
+        12 => 0x0,
+        13 => 0x0,
+        14 => 0x0,
+        15 => 0x0,
+        16 => 0x0,
+        17 => 0x0,
+        18 => 0x0,
+        19 => 0x0,
+        20 => 0x0,
+        21 => 0x0,
+        22 => 0x0,
+        23 => 0x0,
+        24 => 0x100000000,
+        25 => 0x100000000,
+        26 => 0x100,
+        27 => 0x100,
+        28 => 0x0,
+        29 => 0x0,
+        30 => 0x0,
+        31 => 0x0,
+        32 => 0x200,
+        33 => 0x200,
+        34 => 0x200,
+        35 => 0x100000,
+        36 => 0x100000,
+        37 => 0x100000,
+        38 => 0x100000,
+        39 => 0x1000000,
+        40 => 0x5000000,
+        41 => 0x400000,
+        42 => 0x400000,
+        43 => 0x800,
+        44 => 0x20000,
+        45 => 0x10000000,
+        46 => 0x20000000,
+        47 => 0x40000,
+        48 => 0x0,
+        49 => 0x8000,
+        50 => 0x80000000,
+        51 => 0x200000,
+        52 => 0x80000,
+        53 => 0x1000,
+        54 => 0x4000,
+        55 => 0x2000000,
+        56 => 0x800000,
+        57 => 0x0,
+        58 => 0x0,
+        59 => 0x0,
+        60 => 0x0,
+        61 => 0x0,
+        62 => 0x0,
+        63 => 0x0,
+        64 => 0x0,
+        65 => 0x0,
+        66 => 0x0,
+        67 => 0x0,
+        68 => 0x0,
+        69 => 0x0,
+        70 => 0x0,
+        71 => 0x0,
+        72 => 0x0,
+        73 => 0x20,
+        74 => 0x20,
+        75 => 0x20,
+        76 => 0x20,
+        77 => 0x20,
+        78 => 0x20,
+        79 => 0x20,
+        80 => 0x20,
+        81 => 0x20,
+        82 => 0x20,
+        83 => 0x20,
+        84 => 0x20,
+        85 => 0x20,
+        86 => 0x20,
+        87 => 0x40,
+        88 => 0x80,
+        89 => 0x400,
+        90 => 0x8000000,
+        91 => 0x5,
+        92 => 0x11,
+        93 => 0x15,
+        94 => 0x0,
+        95 => 0x0,
+        96 => 0x0,
+        97 => 0x0,
+        98 => 0x0,
+        99 => 0x0,
+        100 => 0x0,
+        101 => 0x0,
+        102 => 0x200000000,
+        103 => 0x10000,
+        104 => 0x40000000,
+        105 => 0x0,
+        106 => 0x2000,
+        107 => 0x0,
+        _ => ALL_MARKS,
+    }
 }

@@ -10,5 +10,6 @@ row-of-spec =
     (λ c κs. search needs)  -- row-code-requires
     (λ c κs. search needs)  -- bits-at-requires
     (λ c κs. search needs)  -- bits-at-requires-2
+    (λ c κs. search needs)  -- bits-at-requires-3
     (λ c. search rowed-by)  -- returns
     )
