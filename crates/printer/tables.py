@@ -2,11 +2,11 @@
 """Writes the tables of crates `plan` and `printer` from the readable list of rows.
 
 The list is `rows` in specs/Layout.antt: for each kind of node with a fixed layout, the pieces that it prints. From it follow the
-numbers of wanted parts and pieces (specs/Rows.antt) and the code's tables over them (src/rows.rt), and the numbers of texts, which
-the writer of a plan knows (crate `plan`: specs/Words.antt, src/words.rt). A text that the code prints by itself has a constant in
-src/words.rt, and stands in FIXED below at the constant's number.
+numbers of wanted parts and pieces (specs/Rows.antt), the code's tables over them (src/rows.rt) with a line of proof for each entry
+(proofs/rows), and the numbers of texts, which the writer of a plan knows (crate `plan`: specs/Words.antt, src/words.rt). A text
+that the code prints by itself has a constant in src/words.rt, and stands in FIXED below at the constant's number.
 
-    crates/printer/tables.py            writes the four files
+    crates/printer/tables.py            writes these files
     crates/printer/tables.py --check    names the files that would change, and changes none
 
 After it come `rt fmt` and `rt check printer`, which proves that the tables are those of the definitions.
@@ -26,8 +26,8 @@ FIXED = ["", ",", " ", "[ ]", "[", "]", "{ }", "{", "}", "(", ")", "local", "loc
 TEXT, NEW_LINE, INDENT, OUTDENT, PART, EACH, EACH_ENDED, PLUS = range(8)
 SIGNALS = {"NewLine": NEW_LINE, "StartIndent": INDENT, "FinishIndent": OUTDENT}
 
-# Kinds of nodes are smaller; pieces a line of the code's table; characters a line of a definition.
-NODES, PIECES, WIDTH = 64, 15, 140
+# Kinds of nodes are smaller, and so are all kinds; characters a line of a definition.
+NODES, KINDS, WIDTH = 64, 108, 140
 
 
 # ---- reading the list
@@ -71,7 +71,7 @@ class Tables:
 
     def __init__(self, layout):
         self.named = {n: parse(definition(n, layout)) for n in re.findall(r"^abbrev pub (\w+) : Piece$", layout, re.M)}
-        self.words, self.wants, self.pieces, self.starts = list(FIXED), [("Expr", 0)], [], {}
+        self.words, self.wants, self.pieces, self.starts = list(FIXED), [("Operator", 0)], [], {}
         for kind, pieces in parse(definition("rows", layout)):
             self.starts[int(kind)] = len(self.pieces)
             self.pieces += [self.piece(p) for p in pieces]
@@ -168,15 +168,60 @@ def array(text, name, numbers):
     return replaced(text, rf"const {name}: \[[^\]]*\] = \[(.*?)\];", listed_numbers)
 
 
+def packed(numbers):
+    """Numbers as one, eight bits each, the first of them lowest."""
+    return "0x" + "_".join(f"{n:02x}" for n in reversed(numbers))
+
+
+def tests(pieces):
+    """How often a node with these pieces is asked for a part that may be missing; a `+` takes the longest to look for."""
+    return sum((p[0] > 0) + (p[1] > 0) + (p[2] > 0) + (p[3] == PART and p[5] == 0) + 2 * (p[3] == PLUS) for p in pieces)
+
+
+def row_entries(tables):
+    """Where the row of each kind starts and ends, and whether the node's parts are marked first: if there is more than one test."""
+    starts = [min([s for k, s in tables.starts.items() if k >= kind], default=len(tables.pieces)) for kind in range(NODES + 1)]
+    return [packed([a, b, int(tests(tables.pieces[a:b]) > 1)]) for a, b in zip(starts, starts[1:])]
+
+
+def piece_entries(tables):
+    return [packed(p) for p in tables.pieces]
+
+
+def want_entries(tables):
+    return [packed([*kinds(c), place]) for c, place in tables.wants]
+
+
+def marks_entries(tables):
+    """For each kind the wanted parts whose class it is of, a bit each."""
+    ranges = [kinds(c) for c, _ in tables.wants]
+    return [hex(sum(1 << w for w, (lo, hi, but) in enumerate(ranges) if lo <= k <= hi and k != but)) for k in range(KINDS)]
+
+
+# The tables of src/rows.rt: the function that has one, its entries, and the laws that an entry is that of its number, by computed
+# tests, and of a number that has none.
+TABLES = (
+    ("row_code", row_entries, "rowed {} {} refl refl", "no-arm {} (c .before .pre) (c .match .rest)"),
+    ("piece_code", piece_entries, "coded {} {} refl refl", "no-arm {} (c .before .pre) (c .match .rest)"),
+    ("want_code", want_entries, "want-coded {} {} refl refl", "no-arm {} (c .before .pre) (c .match .rest)"),
+    ("marks_of", marks_entries, "marks-coded {} {} refl", "marks-coded _ refl refl"),
+)
+
+
 def rows_code(tables, text):
-    ends = [min([s for k, s in tables.starts.items() if k >= kind], default=len(tables.pieces)) for kind in range(NODES + 1)]
-    text = array(text, "ROWS", ends)
-    columns = zip(*([*kinds(c), place] for c, place in tables.wants))
-    for name, column in zip(("FROM", "TO", "BUT", "PLACE"), columns):
-        text = array(text, f"WANT_{name}", column)
-    coded = ["".join(chr(48 + place + n) for place, n in enumerate(p)).replace("\\", "\\\\") for p in tables.pieces]
-    lines = ["".join(coded[i:i + PIECES]) for i in range(0, len(coded), PIECES)]
-    return replaced(text, r'let table: &\[u8\] =\s*b"(.*?)";', "\\\n          ".join(lines))
+    for name, entries, _, _ in TABLES:
+        arms = [f"{i} => {e}," for i, e in enumerate(entries(tables))]
+        text = replaced(text, rf"fn {name}\(.*?match \w+ {{(.*?)_ => ", "\n        " + "\n        ".join(arms) + "\n        ")
+    return text
+
+
+def rows_proof(entries, law, last):
+    """A line for each entry of a table, and one for a number that has none."""
+    def made(tables, text):
+        count = len(entries(tables))
+        lines = [law.format(i, f"(c .match .keys{i + 1})") for i in range(count)] + [last.format(count)]
+        return replaced(text, r"\(tie\.spec\n(.*?)    \)\n", "".join(f"    (λ c. {line})\n" for line in lines))
+    return made
 
 
 def words_code(tables, text):
@@ -187,7 +232,9 @@ def words_code(tables, text):
 
 def main():
     tables, check, status = Tables(LAYOUT.read_text()), "--check" in sys.argv, 0
-    for path, made in ((ROWS, rows_definition), (CODE, rows_code), (TEXTS, words_definition), (WORDS, words_code)):
+    files = [(ROWS, rows_definition), (CODE, rows_code), (TEXTS, words_definition), (WORDS, words_code)]
+    files += [(HERE / f"proofs/rows/{name}/Proof.antt", rows_proof(entries, law, last)) for name, entries, law, last in TABLES]
+    for path, made in files:
         old = path.read_text()
         new = made(tables, old)
         if "".join(old.split()) == "".join(new.split()):

@@ -2,6 +2,7 @@
 mod Chosen
 mod Listing
 mod Looking
+mod Marking
 mod Nodes
 mod Printed
 mod Readings

@@ -2,21 +2,25 @@
 use mathlib.Core.Path.{_≡_}
 use mathlib.Core.Bool.{Bool, true, false, cond, not, _||_}
 use mathlib.Core.List.{List, [], _∷_, _++_, flatten, map}
-use Prim.Native.Nat.{ℕ, _+_, _*_, _-_, _<_, _≤_}
+use Prim.Native.Nat.{ℕ, _-_, _/_, _%_, _^_, _<_, _≤_}
 use Prim.Native.String.{String}
 use lib.Dec.{leb, eqb}
 use lib.ListN.{getD, take, drop}
 use Rattle.items.specs.declared.Signal.the-variants.{NewLine, StartIndent, FinishIndent}
+use Rattle.text.specs.Basic.{any}
+use Rattle.tree.specs.Tree.{Part}
 use Rattle.tree.specs.declared.class.Class.the-variants as Class
+use Rattle.tree.specs.declared.class.Kinds.{Kinds}
+use Rattle.tree.specs.Class.{kinds, ofKind, is}
 use Rattle.plan.specs.Words.{wordAt, wordCount}
 use Rattle.printer.specs.declared.rows.Entry.{Entry}
 use Rattle.printer.specs.declared.rows.Extent.{Extent}
 use Rattle.printer.specs.Layout.{Want, What, txt, bare, part, opt, each, plus, Piece, Row, firstOf, secondOf, t, rows, layout}
 
--- the parts that rows want, by their numbers from 1
+-- the parts that rows want, by their numbers from 1; number 0 is the operators, of which the `+` of a field is one
 unfoldable pub wants : List Want
 wants =
-    firstOf Class.Expr ∷ firstOf Class.Expr ∷ firstOf Class.BinaryOperator ∷ secondOf Class.Expr ∷ firstOf Class.UnaryOperator ∷ firstOf Class.Text
+    firstOf Class.Operator ∷ firstOf Class.Expr ∷ firstOf Class.BinaryOperator ∷ secondOf Class.Expr ∷ firstOf Class.UnaryOperator ∷ firstOf Class.Text
     ∷ firstOf Class.Number ∷ firstOf Class.Literal ∷ firstOf Class.ObjBody ∷ firstOf Class.CompSpec ∷ firstOf Class.ImportKind ∷ firstOf Class.Name
     ∷ firstOf Class.TrueExpr ∷ firstOf Class.Else ∷ firstOf Class.FalseExpr ∷ firstOf Class.ParamsDesc ∷ firstOf Class.Question
     ∷ firstOf Class.SliceDesc ∷ firstOf Class.ArgsDesc ∷ firstOf Class.Assertion ∷ firstOf Class.Destruct ∷ firstOf Class.ObjLocal
@@ -69,14 +73,21 @@ pieceAt q = getD allPieces q (t "")
 abbrev pub settled : Entry → Bool
 settled x = cond (eqb (x .what) 4) (not (eqb (x .word) 0) || eqb (wantAt (x .want) .place) 0) (leb (x .what) 6 || eqb (x .word) 0)
 
--- The entry of piece q in a table of six characters each, with a zero for each place.
-pub record EntryIn (ns : List ℕ) (q : ℕ) (x : Entry) : Type 0 where
-  pub given : x .given ≡ getD ns (q * 6) 0 - 48
-  pub other : x .other ≡ getD ns (q * 6 + 1) 0 - 49
-  pub unless : x .unless ≡ getD ns (q * 6 + 2) 0 - 50
-  pub what : x .what ≡ getD ns (q * 6 + 3) 0 - 51
-  pub want : x .want ≡ getD ns (q * 6 + 4) 0 - 52
-  pub word : x .word ≡ getD ns (q * 6 + 5) 0 - 53
+-- the eight bits of a table's number from a place on
+abbrev pub bitsAt : ℕ → ℕ → ℕ
+bitsAt n s = n / 2 ^ s % 256
+
+-- the entry that stands in a table's number
+abbrev pub entryOf : ℕ → Entry
+entryOf n = record { given = bitsAt n 0; other = bitsAt n 8; unless = bitsAt n 16; what = bitsAt n 24; want = bitsAt n 32; word = bitsAt n 40 }
+
+-- the row that stands in it
+abbrev pub extentOf : ℕ → Extent
+extentOf n = record { start = bitsAt n 0; end = bitsAt n 8; marks = bitsAt n 16 }
+
+-- the kinds that stand in it
+abbrev pub kindsIn : ℕ → Kinds
+kindsIn n = record { lo = bitsAt n 0; hi = bitsAt n 8; but = bitsAt n 16 }
 
 -- The entry of piece q: what it means, and that its numbers are in the tables.
 pub record Coded (q : ℕ) (x : Entry) : Type 0 where
@@ -92,3 +103,22 @@ pub record Coded (q : ℕ) (x : Entry) : Type 0 where
 pub record RowOf (k : ℕ) (r : Extent) : Type 0 where
   pub pieces-of : take (r .end - r .start) (drop (r .start) allPieces) ≡ layout k
   pub within : r .end ≤ pieceCount
+
+-- A number holds the kinds of wanted part w, and which of them it is.
+pub record WantOf (w n : ℕ) : Type 0 where
+  pub class-kinds : kindsIn n ≡ kinds (wantAt w .class)
+  pub which : bitsAt n 24 ≡ wantAt w .place
+
+-- ---- marks: a bit for each wanted part that may be there
+
+-- bit w of a number is set
+abbrev pub marked : ℕ → ℕ → Bool
+marked m w = eqb (m / 2 ^ w % 2) 1
+
+-- Where bit w of m is not set, the kind k is not of the class of wanted part w.
+pub record MarksOf (k m : ℕ) : Type 0 where
+  pub absent : (w : ℕ) → w < wantCount → marked m w ≡ false → ofKind (wantAt w .class) k ≡ false
+
+-- Where bit w of m is not set, none of the parts is.
+pub record Marks (ps : List Part) (m : ℕ) : Type 0 where
+  pub absent : (w : ℕ) → w < wantCount → marked m w ≡ false → any (is (wantAt w .class)) ps ≡ false

@@ -1,12 +1,16 @@
 // Looking up parts of a node. Nothing here prints.
+use super::rows::ALL_MARKS;
 use super::rows::Entry;
+use super::rows::OPERATORS;
 use super::rows::PART;
 use super::rows::kinds_wanted;
+use super::rows::marks_of;
 use super::rows::place_wanted;
 use children::between::Bounds;
 use children::between::bounds_between;
 use tree::Found;
 use tree::access::end_at;
+use tree::access::kind_at;
 use tree::access::last_of;
 use tree::access::nth_of;
 use tree::access::plus_of;
@@ -22,8 +26,8 @@ ghost use Rattle.tree.specs.declared.class.Class.the-variants.{RBrace};
 ghost use Rattle.tree.specs.Class.{nth, first, last, numberOf};
 ghost use Rattle.printer.specs.Layout;
 ghost use Rattle.printer.specs.Layout.{asked};
-ghost use Rattle.printer.specs.Rows.{wantAt, wanted, pieceOf, wantCount};
-ghost use Rattle.printer.specs.Under.{At};
+ghost use Rattle.printer.specs.Rows.{wantAt, wanted, pieceOf, wantCount, marked, Marks};
+ghost use Rattle.printer.specs.Under.{At, partsOf};
 ghost use Rattle.printer.specs.Reads.{partFor};
 ghost use Rattle.printer.specs.Contracts.{specStartIn, partsIn, firstIn, BoundedIn};
 
@@ -45,52 +49,88 @@ pub fn first_of(image: &[u8], index: &[u32], i: u32, c: Class) -> Found
     nth_of(image, index, kinds_of(c), 0, a, b)
 }
 
-// The wanted part with a number.
-pub fn wanted_part(image: &[u8], index: &[u32], i: u32, w: u32) -> Found
+// The marks of the parts of element i, or all marks where these are not asked for.
+pub fn marks_in(image: &[u8], index: &[u32], i: u32, asked: bool) -> u64
     requires { ⌜ At (now image) (now index) i ⌝ }
+    ensures { λ r. ⌜ Marks (partsIn image index i) r ⌝ }
+{
+    if !asked {
+        return ALL_MARKS;
+    }
+    let end = end_at(index, i);
+    let mut m = 0;
+    let mut j = first_in(image, index, i);
+    while j < end {
+        m = m | marks_of(kind_at(index, j));
+        j = end_at(index, j);
+    }
+    m
+}
+
+// Whether the wanted part with a number may be there.
+fn is_marked(m: u64, w: u32) -> bool
+    requires { ⌜ w < wantCount ⌝ }
+    ensures { λ r. ⌜ r ≡ marked m w ⌝ }
+{
+    (m >> w) % 2 == 1
+}
+
+// The wanted part with a number, of a node whose parts have the marks m.
+pub fn wanted_part(image: &[u8], index: &[u32], i: u32, m: u64, w: u32) -> Found
+    requires { ⌜ At (now image) (now index) i ⌝ }
+    requires { ⌜ Marks (partsOf (now image) (now index) i) m ⌝ }
     requires { ⌜ w < wantCount ⌝ }
     ensures { λ r. ⌜ found r ≡ numberOf (nth (wantAt w .class) (wantAt w .place) (partsIn image index i)) ⌝ }
 {
+    if !is_marked(m, w) {
+        return Found::Nothing;
+    }
     let a = first_in(image, index, i);
     let b = end_at(index, i);
     nth_of(image, index, kinds_wanted(w), place_wanted(w), a, b)
 }
 
 // Whether the wanted part with a number is there; number 0 is none.
-fn is_there(image: &[u8], index: &[u32], i: u32, w: u32) -> bool
+fn is_there(image: &[u8], index: &[u32], i: u32, m: u64, w: u32) -> bool
     requires { ⌜ At (now image) (now index) i ⌝ }
+    requires { ⌜ Marks (partsOf (now image) (now index) i) m ⌝ }
     requires { ⌜ w < wantCount ⌝ }
     ensures { λ r. ⌜ r ≡ any (Layout.found (partsIn image index i)) (wanted w) ⌝ }
 {
     if w == 0 {
         return false;
     }
-    !is_nothing(wanted_part(image, index, i, w))
+    !is_nothing(wanted_part(image, index, i, m, w))
 }
 
 // Whether a piece is printed.
-pub fn is_asked(image: &[u8], index: &[u32], i: u32, x: Entry) -> bool
+pub fn is_asked(image: &[u8], index: &[u32], i: u32, m: u64, x: Entry) -> bool
     requires { ⌜ At (now image) (now index) i ⌝ }
+    requires { ⌜ Marks (partsOf (now image) (now index) i) m ⌝ }
     requires { ⌜ x .given < wantCount ⌝ }
     requires { ⌜ x .other < wantCount ⌝ }
     requires { ⌜ x .unless < wantCount ⌝ }
     ensures { λ r. ⌜ r ≡ asked (partsIn image index i) (pieceOf x) ⌝ }
 {
-    let given = is_there(image, index, i, x.given);
-    let other = is_there(image, index, i, x.other);
-    let barred = is_there(image, index, i, x.unless);
+    let given = is_there(image, index, i, m, x.given);
+    let other = is_there(image, index, i, m, x.other);
+    let barred = is_there(image, index, i, m, x.unless);
     let always = (x.given == 0) & (x.other == 0);
     (always | (given | other)) & !barred
 }
 
 // The part that a piece prints.
-pub fn part_of(image: &[u8], index: &[u32], i: u32, x: Entry) -> Found
+pub fn part_of(image: &[u8], index: &[u32], i: u32, m: u64, x: Entry) -> Found
     requires { ⌜ At (now image) (now index) i ⌝ }
+    requires { ⌜ Marks (partsOf (now image) (now index) i) m ⌝ }
     requires { ⌜ x .want < wantCount ⌝ }
     ensures { λ r. ⌜ found r ≡ numberOf (partFor x (partsIn image index i)) ⌝ }
 {
     if x.what == PART {
-        return wanted_part(image, index, i, x.want);
+        return wanted_part(image, index, i, m, x.want);
+    }
+    if !is_marked(m, OPERATORS) {
+        return Found::Nothing;
     }
     let a = first_in(image, index, i);
     let b = end_at(index, i);

@@ -23,6 +23,7 @@ use super::look::enclosed;
 use super::look::first_in;
 use super::look::first_of;
 use super::look::is_asked;
+use super::look::marks_in;
 use super::look::part_of;
 use super::look::spec_bounds;
 use super::pieces::fixed;
@@ -81,7 +82,7 @@ ghost use Rattle.plan.specs.Plans.{PlansIn};
 ghost use Rattle.printer.specs.declared.lists.Style.the-variants.{Specs};
 ghost use Rattle.printer.specs.Layout.{layout};
 ghost use Rattle.printer.specs.Print.{what, row, children, list, arguments, compOf, comprehension, localOf, valuesOf, expression};
-ghost use Rattle.printer.specs.Rows.{pieceAt, wantCount, pieceCount};
+ghost use Rattle.printer.specs.Rows.{pieceAt, wantCount, pieceCount, Marks};
 ghost use Rattle.printer.specs.Under.{At, Kid, printOf, partsOf};
 ghost use Rattle.printer.specs.Walked.{Outlined};
 ghost use Rattle.printer.specs.Reads.{numberOr, Has, Within, readAt, Whole, kidsIn, Walks};
@@ -115,22 +116,24 @@ fn row(ops: &mut [u32], cells: &mut [u32; 8], image: &[u8], index: &[u32], i: u3
     ensures { λ _. ⌜ PlansIn ops cells image index (row (underIn image i) (partsIn image index i) (layout (kindAt (now (index .entry)) i))) ⌝ }
 {
     let e = row_of(kind_at(index, i));
+    let m = marks_in(image, index, i, e.marks == 1);
     let end = e.end;
     let mut n = e.start;
     while n < end {
-        piece(ops, cells, image, index, i, n);
+        piece(ops, cells, image, index, i, m, n);
         n += 1;
     }
 }
 
-// A piece of the row of element i.
-fn piece(ops: &mut [u32], cells: &mut [u32; 8], image: &[u8], index: &[u32], i: u32, n: u32)
+// A piece of the row of element i, whose parts have the marks m.
+fn piece(ops: &mut [u32], cells: &mut [u32; 8], image: &[u8], index: &[u32], i: u32, m: u64, n: u32)
     requires { ⌜ At (now image) (now index) i ⌝ }
+    requires { ⌜ Marks (partsOf (now image) (now index) i) m ⌝ }
     requires { ⌜ n < pieceCount ⌝ }
     ensures { λ _. ⌜ PlansIn ops cells image index (pieceIn image index i (pieceAt n)) ⌝ }
 {
     let x = entry_at(n);
-    if !is_asked(image, index, i, x) {
+    if !is_asked(image, index, i, m, x) {
         return;
     }
     if x.what < PART {
@@ -141,7 +144,7 @@ fn piece(ops: &mut [u32], cells: &mut [u32; 8], image: &[u8], index: &[u32], i: 
         each(ops, cells, image, index, i, x);
         return;
     }
-    let f = part_of(image, index, i, x);
+    let f = part_of(image, index, i, m, x);
     part(ops, cells, image, index, i, f, x.word);
 }
 

@@ -93,6 +93,7 @@ use Rattle.printer.proofs.look.enclosed.Reads as enclosed-reads
 use Rattle.printer.proofs.look.first_in.Reads as first-in-reads
 use Rattle.printer.proofs.look.first_of.Reads as first-of-reads
 use Rattle.printer.proofs.look.is_asked.Reads as is-asked-reads
+use Rattle.printer.proofs.look.marks_in.Reads as marks-in-reads
 use Rattle.printer.proofs.look.part_of.Reads as part-of-reads
 use Rattle.printer.proofs.look.spec_bounds.Reads as spec-bounds-reads
 use Rattle.printer.proofs.pieces.fixed.Reads as fixed-reads
@@ -327,7 +328,7 @@ abbrev pub piece-claims : ℕ → piece-lts.Claims
 piece-claims t = (entry-at-reads.Asked, entry-at-reads.Learnt, is-asked-reads.Asked, is-asked-reads.Learnt, fixed-reads.Asked, fixed-reads.Learnt, each-below t, each.Post, part-of-reads.Asked, part-of-reads.Learnt, part-below t, part.Post)
 
 abbrev pub row-claims : ℕ → row-lts.Claims
-row-claims t = (kind-at-reads.Asked, kind-at-reads.Learnt, row-of-reads.Asked, row-of-reads.Learnt, piece-below t, piece.Post)
+row-claims t = (kind-at-reads.Asked, kind-at-reads.Learnt, row-of-reads.Asked, row-of-reads.Learnt, marks-in-reads.Asked, marks-in-reads.Learnt, piece-below t, piece.Post)
 
 abbrev pub specs-claims : ℕ → specs-lts.Claims
 specs-claims t = (kinds-of-reads.Asked, kinds-of-reads.Learnt, lead-reads.Asked, lead-reads.Learnt, end-at-reads.Asked, end-at-reads.Learnt, gap-reads.Asked, gap-reads.Learnt, unasked-reads.Asked, unasked-reads.Learnt, child-below t, child.Post, kids-below t, kids.Post)

@@ -50,7 +50,7 @@ piece-closed t =
     (piece-at t)
     piece.Post
     (λ c κs. search needs)  -- entry-at-requires
-    (λ c κs. search needs)  -- is-asked-requires
+    (λ c κs. (search needs, (search needs, (search needs, (search needs, search needs)))))  -- is-asked-requires
     (returns t)  -- returns
     (λ c κs. search needs)  -- fixed-requires
     (λ c. returns-2 t c .sameOps)  -- same-length
