@@ -3,8 +3,8 @@
 
 The list is `rows` in specs/Layout.antt: for each kind of node with a fixed layout, the pieces that it prints. From it follow the
 numbers of wanted parts and pieces (specs/Rows.antt), the code's tables over them (src/rows.rt) with a line of proof for each entry
-(proofs/rows), and the numbers of texts, which the writer of a plan knows (crate `plan`: specs/Words.antt, src/words.rt). A text
-that the code prints by itself has a constant in src/words.rt, and stands in FIXED below at the constant's number.
+(proofs/rows), and the numbers of texts, which the writer of a plan knows (crate `plan`: specs/Words.antt, src/words.rt, src/write.rt). A
+text that the code prints by itself has a constant in src/words.rt, and stands in FIXED below at the constant's number.
 
     crates/printer/tables.py            writes these files
     crates/printer/tables.py --check    names the files that would change, and changes none
@@ -17,7 +17,8 @@ from pathlib import Path
 
 HERE = Path(__file__).resolve().parent
 LAYOUT, ROWS, CODE = (HERE / path for path in ("specs/Layout.antt", "specs/Rows.antt", "src/rows.rt"))
-TEXTS, WORDS, CLASS, KIND = (HERE.parent / path for path in ("plan/specs/Words.antt", "plan/src/words.rt", "tree/src/class.rt", "numbers/src/kind.rt"))
+TEXTS, WORDS, WRITER, STARTS = (HERE.parent / "plan" / path for path in ("specs/Words.antt", "src/words.rt", "src/write.rt", "proofs/words/start_of/Proof.antt"))
+CLASS, KIND = (HERE.parent / path for path in ("tree/src/class.rt", "numbers/src/kind.rt"))
 
 # The texts of the constants of src/words.rt; number 0 is no text.
 FIXED = ["", ",", " ", "[ ]", "[", "]", "{ }", "{", "}", "(", ")", "local", "local ", ";", "/*missing ExprBase*/", "/*missing Expr*/"]
@@ -162,12 +163,6 @@ def words_definition(tables, text):
     return counted(replaced(text, r"^words =(.*?)\n\n", definition_lines(words)), "word", words)
 
 
-def array(text, name, numbers):
-    listed_numbers = "\n" + "".join(f"    {n},\n" for n in numbers)
-    text = replaced(text, rf"const {name}: \[u\d+; (\d+)\]", str(len(numbers)))
-    return replaced(text, rf"const {name}: \[[^\]]*\] = \[(.*?)\];", listed_numbers)
-
-
 def packed(numbers):
     """Numbers as one, eight bits each, the first of them lowest."""
     return "0x" + "_".join(f"{n:02x}" for n in reversed(numbers))
@@ -208,14 +203,23 @@ TABLES = (
 )
 
 
+def word_starts(tables):
+    return [sum(map(len, tables.words[:i])) for i in range(len(tables.words) + 1)]
+
+
+def with_arms(text, name, entries):
+    """The text with the arms of the match of a function written anew."""
+    arms = [f"{i} => {e}," for i, e in enumerate(entries)]
+    return replaced(text, rf"fn {name}\(.*?match \w+ {{(.*?)_ => ", "\n        " + "\n        ".join(arms) + "\n        ")
+
+
 def rows_code(tables, text):
     for name, entries, _, _ in TABLES:
-        arms = [f"{i} => {e}," for i, e in enumerate(entries(tables))]
-        text = replaced(text, rf"fn {name}\(.*?match \w+ {{(.*?)_ => ", "\n        " + "\n        ".join(arms) + "\n        ")
+        text = with_arms(text, name, entries(tables))
     return text
 
 
-def rows_proof(entries, law, last):
+def arms_proof(entries, law, last):
     """A line for each entry of a table, and one for a number that has none."""
     def made(tables, text):
         count = len(entries(tables))
@@ -225,15 +229,19 @@ def rows_proof(entries, law, last):
 
 
 def words_code(tables, text):
-    starts = [sum(map(len, tables.words[:i])) for i in range(len(tables.words) + 1)]
-    text = replaced(array(text, "STARTS", starts), r"const WORDS: u32 = (\d+);", str(len(tables.words)))
+    text = replaced(text, r"const WORDS: u32 = (\d+);", str(len(tables.words)))
+    return with_arms(text, "start_of", word_starts(tables))
+
+
+def writer_code(tables, text):
     return replaced(text, r'let all: &\[u8\] =\s*b"(.*?)";', "".join(tables.words))
 
 
 def main():
     tables, check, status = Tables(LAYOUT.read_text()), "--check" in sys.argv, 0
-    files = [(ROWS, rows_definition), (CODE, rows_code), (TEXTS, words_definition), (WORDS, words_code)]
-    files += [(HERE / f"proofs/rows/{name}/Proof.antt", rows_proof(entries, law, last)) for name, entries, law, last in TABLES]
+    files = [(ROWS, rows_definition), (CODE, rows_code), (TEXTS, words_definition), (WORDS, words_code), (WRITER, writer_code)]
+    files += [(STARTS, arms_proof(word_starts, "starts {} refl {}", "no-arm {} (at-most (c .before .pre)) (c .match .rest)"))]
+    files += [(HERE / f"proofs/rows/{name}/Proof.antt", arms_proof(entries, law, last)) for name, entries, law, last in TABLES]
     for path, made in files:
         old = path.read_text()
         new = made(tables, old)

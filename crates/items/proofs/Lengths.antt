@@ -4,9 +4,9 @@ use mathlib.Core.Bool.{Bool, true, false, cond, _&&_}
 use mathlib.Core.List.{List, [], _∷_, _++_}
 use Prim.Native.Nat.{ℕ, suc, _+_, _*_, _≤_, _<_, _^_, zero}
 use native.Mathlib.Omega.{arith}
-use lib.Dec.{leb, ltb, eqb}
+use lib.Dec.{leb, eqb}
 use lib.ListN.{length, length-append, List·getD-eq-default}
-use borrow.Author.Tests.{ltb-true, ltb-false, leb-true, eq-eqb, ne-eqb}
+use borrow.Author.Tests.{leb-true, eq-eqb, ne-eqb}
 use Rattle.text.specs.Basic.{ascii, All, ∅, all, _▹_}
 use Rattle.text.proofs.Lists.{and-true}
 use Rattle.text.specs.Words.{wordIn}
@@ -28,25 +28,9 @@ pub length-of : (t : Table) (j : ℕ) {w n : ℕ} → length (ascii (nameAt t j)
 length-of t j e h = rw h (sym e)
 
 -- no other number has a name
-nameless : (t : Table) (w : ℕ) → length (namesOf t) ≤ w → 0 ≡ length (ascii (nameAt t w))
+pub nameless : (t : Table) (w : ℕ) → length (namesOf t) ≤ w → 0 ≡ length (ascii (nameAt t w))
 unfolding nameAt
 nameless t w h = rw (List·getD-eq-default (namesOf t) "" h)
-
--- a number that is not the last below a limit lies below that one
-pub peeled : {w : ℕ} (n : ℕ) → w < suc n → (w ≡ n → ⊥) → w < n
-peeled n h k = omega (arith, h, k)
-
-pub unnamed-kind : (w : ℕ) → (w < 18 → w < 1) → 0 ≡ length (ascii (nameAt Kinds w))
-unfolding namesOf nameAt kindNames
-unnamed-kind w h = go (ltb w 18) refl
-  where
-    go : (b : Bool) → ltb w 18 ≡ b → 0 ≡ length (ascii (nameAt Kinds w))
-    go true e = let z : w ≡ 0 = omega (arith, h (ltb-true w 18 e)) in rw z refl
-    go false e = nameless Kinds w (ltb-false w 18 e)
-
-pub unnamed-other : (w : ℕ) → 5 ≤ w → 0 ≡ length (ascii (nameAt Others w))
-unfolding namesOf otherNames
-unnamed-other w h = nameless Others w h
 
 -- the length of a name of a table that is known
 pub of-table : (t u : Table) (w : ℕ) {n : ℕ} → t ≡ u → n ≡ length (ascii (nameAt u w)) → n ≡ length (ascii (nameAt t w))

@@ -84,6 +84,7 @@ fn kind_length(w: u32) -> u64
     ensures { λ r. ⌜ r ≡ length (ascii (nameAt Kinds w)) ⌝ }
 {
     match w {
+        0 => 0,
         1 => 4,
         2 => 7,
         3 => 16,

@@ -2,6 +2,7 @@
 use mathlib.Core.Path.{_≡_, refl, sym}
 use mathlib.Core.List.{List, []}
 use Prim.Native.Nat.{ℕ, _+_, _-_, _<_, _≤_}
+use native.Mathlib.Omega.{arith}
 use lib.ListN.{length, take, drop, List·getD-eq-default}
 use Rattle.text.specs.Basic.{ascii}
 use borrow.Author.Tests.{eq-eqb, ne-eqb}
@@ -9,6 +10,13 @@ use Rattle.text.specs.Words.{joinedWords, wordStart}
 use Rattle.text.proofs.Words as W
 use Rattle.items.specs.Item.{none, lit}
 use Rattle.plan.specs.Words.{words, wordAt, wordOrNone, wordCount}
+
+-- the text with the number j starts here
+pub starts : (j : ℕ) {w n : ℕ} → wordStart words j ≡ n → w ≡ j → n ≡ wordStart words w
+starts j e h = rw h (sym e)
+
+pub at-most : {w : ℕ} → w ≤ wordCount → w < 51
+at-most h = omega (arith, h)
 
 -- there are so many
 words-counted : length words ≡ wordCount

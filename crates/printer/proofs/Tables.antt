@@ -14,23 +14,6 @@ use Rattle.printer.specs.declared.rows.Extent.{Extent}
 use Rattle.printer.specs.Layout.{layout}
 use Rattle.printer.specs.Rows.{wantCount, pieceCount, wantAt, pieceAt, pieceOf, settled, allPieces, bitsAt, entryOf, extentOf, kindsIn, Coded, RowOf, WantOf}
 
--- ---- the arms of a match on a number
-
--- q is none of the numbers below n
-abbrev pub NoneBelow : ℕ → ℕ → Type 0
-NoneBelow zero q = Unit
-NoneBelow (suc n) q = NoneBelow n q × (q ≡ n → ⊥)
-
-behind-all : (n q : ℕ) → NoneBelow n q → n ≤ q
-behind-all zero q h = omega arith
-behind-all (suc n) q h =
-    let d : q ≡ n → ⊥ = h .1 in
-    omega (arith, behind-all n q (h .0))
-
--- a number below n is one of them
-pub no-arm : {A : Type 0} (n : ℕ) {q : ℕ} → q < n → NoneBelow n q → A
-no-arm n {q} h k = absurd (omega (arith, behind-all n q k))
-
 -- ---- wanted parts
 
 -- the number of a wanted part in the table

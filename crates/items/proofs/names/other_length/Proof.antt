@@ -1,9 +1,9 @@
 use mathlib.Core.Path.{refl}
-use native.Mathlib.Omega.{arith}
+use Rattle.text.proofs.Table.{behind-all}
 use Rattle.items.specs.declared.names.Table.the-variants.{Others}
 use Rattle.items.specs.Lines.{kindNames}
 use Rattle.items.specs.Names.{otherNames, namesOf, nameAt}
-use Rattle.items.proofs.Lengths.{length-of, unnamed-other}
+use Rattle.items.proofs.Lengths.{length-of, nameless}
 use Rattle.items.proofs.names.other_length.Statement.{statement}
 use Rattle.items.proofs.names.other_length.Tie as tie
 
@@ -17,5 +17,5 @@ other-length-spec =
     (λ c. length-of Others 2 refl (c .match .keys3))  -- returns-3
     (λ c. length-of Others 3 refl (c .match .keys4))  -- returns-4
     (λ c. length-of Others 4 refl (c .match .keys5))  -- returns-5
-    (λ c. unnamed-other (c .before .args .w) (omega (arith, c .match .rest .0 .0 .0 .0 .1, c .match .rest .0 .0 .0 .1, c .match .rest .0 .0 .1, c .match .rest .0 .1, c .match .rest .1)))  -- returns-6
+    (λ c. nameless Others _ (behind-all 5 _ (c .match .rest)))  -- returns-6
     )

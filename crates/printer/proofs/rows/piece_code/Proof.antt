@@ -1,9 +1,10 @@
 use mathlib.Core.Path.{refl}
+use Rattle.text.proofs.Table.{no-arm}
 use mathlib.Core.List.{flatten}
 use Rattle.plan.specs.Words.{words}
 use Rattle.printer.specs.Layout.{rows}
 use Rattle.printer.specs.Rows.{wants, wanted, whatOf, allPieces}
-use Rattle.printer.proofs.Tables.{coded, no-arm}
+use Rattle.printer.proofs.Tables.{coded}
 use Rattle.printer.proofs.rows.piece_code.Statement.{statement}
 use Rattle.printer.proofs.rows.piece_code.Tie as tie
 

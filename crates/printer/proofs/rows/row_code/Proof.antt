@@ -1,8 +1,9 @@
 use mathlib.Core.Path.{refl}
+use Rattle.text.proofs.Table.{no-arm}
 use mathlib.Core.List.{flatten}
 use Rattle.printer.specs.Layout.{rows, pick}
 use Rattle.printer.specs.Rows.{allPieces}
-use Rattle.printer.proofs.Tables.{rowed, no-arm}
+use Rattle.printer.proofs.Tables.{rowed}
 use Rattle.printer.proofs.rows.row_code.Statement.{statement}
 use Rattle.printer.proofs.rows.row_code.Tie as tie
 

@@ -1,7 +1,8 @@
 use mathlib.Core.Path.{refl}
+use Rattle.text.proofs.Table.{no-arm}
 use Rattle.tree.specs.Class.{kinds}
 use Rattle.printer.specs.Rows.{wants}
-use Rattle.printer.proofs.Tables.{want-coded, no-arm}
+use Rattle.printer.proofs.Tables.{want-coded}
 use Rattle.printer.proofs.rows.want_code.Statement.{statement}
 use Rattle.printer.proofs.rows.want_code.Tie as tie
 
