@@ -1,19 +1,15 @@
--- The loop of `survey_from`, and what waits in a gap.
+-- The loop of `survey_from`, whole readings, and what a gap's tally says.
 use mathlib.Core.Path.{_≡_, refl, ap, _∙_, sym}
 use mathlib.Core.Bool.{Bool, true, false, cond, not, _&&_, _||_}
-use mathlib.Core.Option.{Option, some}
-use mathlib.Core.List.{List, [], _∷_, _++_}
+use mathlib.Core.List.{List}
 use Prim.Native.Nat.{ℕ, suc, _+_, _-_, _<_, _≤_}
 use native.Mathlib.Omega.{arith}
 use native.Mathlib.Numerals.{add-one}
 use native.Mathlib.Nat.{add-zero}
 use lib.Dec.{eqb, leb}
 use borrow.Author.Tests.{eq-eqb, ne-eqb, not-true, not-false}
-use Rattle.text.specs.Basic.{isNil, present, any}
-use Rattle.tree.specs.Tree.{Part}
-use Rattle.tree.specs.declared.class.Class.the-variants as Class
+use Rattle.text.specs.Basic.{isNil, any}
 use Rattle.tree.specs.declared.class.Kinds.{Kinds}
-use Rattle.tree.specs.Class.{kinds, oneOf, nthOf, numberOf, allOf}
 use Rattle.tree.specs.Index.{Region, partsFrom, partAt, endAt}
 use Rattle.tree.proofs.Siblings.{region-next, region-past}
 use Rattle.children.specs.declared.gap.Span.{Span}
@@ -23,7 +19,6 @@ use Rattle.children.specs.Gaps.{Gaps, gaps, newlinesAt, gapSums}
 use Rattle.children.specs.Reading.{newlinesBefore, newlinesBack}
 use Rattle.children.specs.Whole.{sumsOf}
 use Rattle.children.specs.Lead.{Leads, leads, led, leadAt, childAfter, readingAfter, SurveyedAfter}
-use Rattle.children.specs.Stretch.{notes, waitingIn}
 use Rattle.children.specs.Spans.{Lies, Spans, spanned, gapAt, Surveying, SurveyedFrom, Surveyed, surveyed}
 use Rattle.children.proofs.Whole.{first-sums}
 use Rattle.children.proofs.Stretch.{jumps-le}

@@ -1,4 +1,3 @@
-use mathlib.Core.Path.{refl}
 use Prim.Native.Nat.{_+_}
 use native.Mathlib.Omega.{arith}
 use Rattle.children.proofs.Growing.{picked-few, counted-is}
