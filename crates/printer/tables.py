@@ -176,21 +176,22 @@ def tests(pieces):
 def row_entries(tables):
     """Where the row of each kind starts and ends, and whether the node's parts are marked first: if there is more than one test."""
     starts = [min([s for k, s in tables.starts.items() if k >= kind], default=len(tables.pieces)) for kind in range(NODES + 1)]
-    return [packed([a, b, int(tests(tables.pieces[a:b]) > 1)]) for a, b in zip(starts, starts[1:])]
+    return {k: packed([a, b, int(tests(tables.pieces[a:b]) > 1)]) for k, (a, b) in enumerate(zip(starts, starts[1:]))}
 
 
 def piece_entries(tables):
-    return [packed(p) for p in tables.pieces]
+    return {q: packed(p) for q, p in enumerate(tables.pieces)}
 
 
 def want_entries(tables):
-    return [packed([*kinds(c), place]) for c, place in tables.wants]
+    return {w: packed([*kinds(c), place]) for w, (c, place) in enumerate(tables.wants)}
 
 
 def marks_entries(tables):
-    """For each kind the wanted parts whose class it is of, a bit each."""
+    """For each kind the wanted parts whose class it is of, a bit each; a node that no row wants has no entry."""
     ranges = [kinds(c) for c, _ in tables.wants]
-    return [hex(sum(1 << w for w, (lo, hi, but) in enumerate(ranges) if lo <= k <= hi and k != but)) for k in range(KINDS)]
+    marks = [sum(1 << w for w, (lo, hi, but) in enumerate(ranges) if lo <= k <= hi and k != but) for k in range(KINDS)]
+    return {k: f"0x{m:x}" for k, m in enumerate(marks) if m or k >= NODES}
 
 
 # The tables of src/rows.rt: the function that has one, its entries, and the laws that an entry is that of its number, by computed
@@ -204,12 +205,12 @@ TABLES = (
 
 
 def word_starts(tables):
-    return [sum(map(len, tables.words[:i])) for i in range(len(tables.words) + 1)]
+    return {i: sum(map(len, tables.words[:i])) for i in range(len(tables.words) + 1)}
 
 
 def with_arms(text, name, entries):
     """The text with the arms of the match of a function written anew."""
-    arms = [f"{i} => {e}," for i, e in enumerate(entries)]
+    arms = [f"{n} => {e}," for n, e in entries.items()]
     return replaced(text, rf"fn {name}\(.*?match \w+ {{(.*?)_ => ", "\n        " + "\n        ".join(arms) + "\n        ")
 
 
@@ -222,8 +223,8 @@ def rows_code(tables, text):
 def arms_proof(entries, law, last):
     """A line for each entry of a table, and one for a number that has none."""
     def made(tables, text):
-        count = len(entries(tables))
-        lines = [law.format(i, f"(c .match .keys{i + 1})") for i in range(count)] + [last.format(count)]
+        numbers = entries(tables)
+        lines = [law.format(n, f"(c .match .keys{i})") for i, n in enumerate(numbers, 1)] + [last.format(len(numbers))]
         return replaced(text, r"\(tie\.spec\n(.*?)    \)\n", "".join(f"    (λ c. {line})\n" for line in lines))
     return made
 

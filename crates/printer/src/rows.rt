@@ -376,43 +376,17 @@ pub fn place_wanted(w: u32) -> u32
     bits_at(want_code(w), 24)
 }
 
-// The table of marks: for each kind the wanted parts whose class it is of.
+// The table of marks: for each kind the wanted parts whose class it is of. A node of a kind that no row wants has all of them: it stands
+// under no node that has a row.
 pub fn marks_of(k: u32) -> u64
     ensures { λ r. ⌜ MarksOf k r ⌝ }
 {
     match k {
-        0 => 0x0,
-        1 => 0x0,
         2 => 0xa,
-        3 => 0x0,
-        4 => 0x0,
-        5 => 0x0,
-        6 => 0x0,
-        7 => 0x0,
-        8 => 0x0,
-        9 => 0x0,
-        10 => 0x0,
-        11 => 0x0,
-        12 => 0x0,
-        13 => 0x0,
-        14 => 0x0,
-        15 => 0x0,
-        16 => 0x0,
-        17 => 0x0,
-        18 => 0x0,
-        19 => 0x0,
-        20 => 0x0,
-        21 => 0x0,
-        22 => 0x0,
-        23 => 0x0,
         24 => 0x100000000,
         25 => 0x100000000,
         26 => 0x100,
         27 => 0x100,
-        28 => 0x0,
-        29 => 0x0,
-        30 => 0x0,
-        31 => 0x0,
         32 => 0x200,
         33 => 0x200,
         34 => 0x200,
@@ -429,7 +403,6 @@ pub fn marks_of(k: u32) -> u64
         45 => 0x10000000,
         46 => 0x20000000,
         47 => 0x40000,
-        48 => 0x0,
         49 => 0x8000,
         50 => 0x80000000,
         51 => 0x200000,
@@ -438,13 +411,6 @@ pub fn marks_of(k: u32) -> u64
         54 => 0x4000,
         55 => 0x2000000,
         56 => 0x800000,
-        57 => 0x0,
-        58 => 0x0,
-        59 => 0x0,
-        60 => 0x0,
-        61 => 0x0,
-        62 => 0x0,
-        63 => 0x0,
         64 => 0x0,
         65 => 0x0,
         66 => 0x0,

@@ -1,5 +1,4 @@
 use Prim.Native.Nat.{ℕ}
-use borrow.Author.Needs.{needs}
 use Rattle.printer.proofs.Rowing.{piece-unasked, piece-asked, piece-each, piece-part}
 use Rattle.plan.proofs.Laws.{by, idle}
 use mathlib.Core.Path.{sym, ap, _∙_}
@@ -36,6 +35,24 @@ returns-4 t c =
     let x = i1 .before .before .entry-at .ensures in
     by (piece-asked _ _ _ _ _ x (i1 .before .is-asked .ensures) (i1 .if1 .left) ∙ piece-part _ _ _ (x .settles) (i2 .if2 .left) (i3 .if3 .left) ∙ ap (numberOr _ _) (sym (f .part-of .ensures))) (c1 .part .ensures)
 
+is-asked-asked : (t : ℕ) → lts.Need-is-asked-requires (piece-claims t) (piece-at t) piece.Post
+is-asked-asked t c κs =
+    let s = c .before .before .before .before in
+    let x = c .entry-at .ensures in
+    (s .pre .1 .0, (s .pre .1 .1 .0, (x .given, (x .other, x .unless))))
+
+each-asked : (t : ℕ) → lts.Need-each-requires (piece-claims t) (piece-at t) piece.Post
+each-asked t c κs =
+    let x = c .before .before .before .before .before .before .before .before .before in
+    let s = x .before .before .before .before in
+    (omega (arith, s .pre .0), (s .pre .1 .0, (x .entry-at .ensures .want, x .entry-at .ensures .word)))
+
+part-of-asked : (t : ℕ) → lts.Need-part-of-requires (piece-claims t) (piece-at t) piece.Post
+part-of-asked t c κs =
+    let x = c .before .before .before .before .before .before .before in
+    let s = x .before .before .before .before in
+    (s .pre .1 .0, (s .pre .1 .1 .0, x .entry-at .ensures .want))
+
 part-asked : (t : ℕ) → lts.Need-part-requires (piece-claims t) (piece-at t) piece.Post
 part-asked t c κs =
     let f = c .before .before in
@@ -49,16 +66,16 @@ piece-closed t =
     (piece-claims t)
     (piece-at t)
     piece.Post
-    (λ c κs. search needs)  -- entry-at-requires
-    (λ c κs. (search needs, (search needs, (search needs, (search needs, search needs)))))  -- is-asked-requires
+    (λ c κs. c .before .before .before .pre .1 .1 .1)  -- entry-at-requires
+    (is-asked-asked t)  -- is-asked-requires
     (returns t)  -- returns
-    (λ c κs. search needs)  -- fixed-requires
+    (λ c κs. (c .before .before .if2 .taken, c .before .before .before .before .before .before .entry-at .ensures .word))  -- fixed-requires
     (λ c. returns-2 t c .sameOps)  -- same-length
     (returns-2 t)  -- returns-2
-    (λ c κs. search needs)  -- each-requires
+    (each-asked t)  -- each-requires
     (λ c. returns-3 t c .sameOps)  -- same-length-2
     (returns-3 t)  -- returns-3
-    (λ c κs. search needs)  -- part-of-requires
+    (part-of-asked t)  -- part-of-requires
     (part-asked t)  -- part-requires
     (λ c. returns-4 t c .sameOps)  -- same-length-3
     (returns-4 t)  -- returns-4
