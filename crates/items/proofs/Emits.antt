@@ -11,19 +11,15 @@ use Rattle.text.proofs.Lists.{and-true}
 use mathlib.Core.Logic.{⊎-elim}
 use native.Mathlib.Omega.{arith}
 use native.Mathlib.Nat.{add-zero}
-use native.Mathlib.Numerals.{add-one}
 use denote.Enum.Declared.{tagOf}
 use types.Run.{OneOf}
 use lib.ListN.{length}
-use Rattle.items.specs.declared.Condition.{Condition}
-use Rattle.items.specs.declared.Condition.the-variants.{Always, Lines}
 use Rattle.items.specs.declared.Count.{Count}
 use Rattle.items.specs.declared.Entry.{Entry}
-use Rattle.numbers.specs.declared.Mark.{Mark}
 use Rattle.items.specs.declared.Printed.{Printed}
 use Rattle.items.specs.declared.Printed.the-variants.{Done, Stopped, Full}
 use Rattle.items.specs.declared.Signal.{Signal}
-use Rattle.items.specs.Item.{Item, text, mark, runEnd, again, ifTest, ok, Print, say, runAt, plainItem, run as item, signal, conditionTest, signalKind}
+use Rattle.items.specs.Item.{Item, text, ok, Print, say, plainItem, signal, signalKind}
 use Rattle.items.specs.Role.{role, isRun, isMark}
 use Rattle.items.specs.Records.{bytesOf, words, bytes}
 use Rattle.items.specs.Machine.{State, store, allFit, Puts, counted, printable, emitted, emitAll, onward, reaching, finish, run, seen, held, Prints}
@@ -120,36 +116,10 @@ said-text s rs ts rs′ ts′ p r c e h b g m l₁ l₂ =
     (shown (say (text s)) (text s) e rs ts rs′ ts′ (Done c) r
     (λ c′ h′. let q : c ≡ c′ = cc in record { entry = g ∙ rw q refl; prints = rw (add-zero (c′ .runs)); bytes = rw q at b }) m l₁ l₂)
 
-pub opened :
-    (rs ts rs′ : List ℕ) (p r : Printed) (n : ℕ) → Emitted (record { kind = 12; first = n; second = 0; bytes = 0; runs = 1; marks = 0 }) rs p rs′ r
-    → length rs′ ≡ length rs → Prints (runAt n) (held rs ts p) (held rs′ ts r)
-unfolding runAt store
-opened rs ts rs′ p r n m l =
-    shown (runAt n) (item n) _ rs ts rs′ ts p r (λ c h. record { entry = refl; prints = rw (add-one (c .runs)); bytes = refl }) m l refl
-
 -- ---- items with no text that are no runs
-
-pub mark-textless : (n : ℕ) → Textless (entryOf 0 (mark n)) (mark n)
-mark-textless n = record { entry = λ at. refl; bytes = refl; runs = refl }
-
-pub end-textless : (n : ℕ) → Textless (entryOf 0 (runEnd n)) (runEnd n)
-end-textless n = record { entry = λ at. refl; bytes = refl; runs = refl }
-
-pub again-textless : (n : ℕ) → Textless (entryOf 0 (again n)) (again n)
-again-textless n = record { entry = λ at. refl; bytes = refl; runs = refl }
 
 pub signal-textless : (s : Signal) → Textless (plainEntry (signalKind s) 0 0) (signal s)
 signal-textless s = record { entry = λ at. refl; bytes = refl; runs = refl }
-
-pub condition-textless : (t : Condition) → Textless (entryOf 0 (ifTest (conditionTest t))) (ifTest (conditionTest t))
-condition-textless Always = record { entry = λ at. refl; bytes = refl; runs = refl }
-condition-textless (Lines m) = record { entry = λ at. refl; bytes = refl; runs = refl }
-
-pub always-entry : (t : Condition) → t ≡ Always → plainEntry 15 0 0 ≡ entryOf 0 (ifTest (conditionTest t))
-always-entry t h = rw h
-
-pub lines-entry : (t : Condition) (m : Mark) → t ≡ Lines m → plainEntry 15 1 (m .0) ≡ entryOf 0 (ifTest (conditionTest t))
-lines-entry t m h = rw h
 
 -- ---- items without a text by their kinds
 

@@ -159,10 +159,6 @@ withNumber f k = f k k
 unfoldable pub openRun : Print
 openRun k = ok (run k ∷ []) (suc k)
 
--- begins a run with this number
-unfoldable pub runAt : ℕ → Print
-runAt n k = ok (run n ∷ []) (suc k)
-
 -- a printing whose lists are numbered from n
 unfoldable pub startingAt : ℕ → Print → Print
 startingAt n p k = p n

@@ -4,13 +4,12 @@ pub mod names;
 
 use numbers::Element;
 use numbers::Mark;
-use numbers::Run;
 ghost use mathlib.Core.Path.{_≡_};
 ghost use mathlib.Core.Bool.{true, cond};
 ghost use mathlib.Core.List.{[], _∷_};
 ghost use Prim.Native.Nat.{max, _+_, _<_, _≤_, _^_};
 ghost use lib.ListN.{length, set};
-ghost use Rattle.items.specs.Item.{say, runAt, plainItem, text, signal, signalKind, conditionTest, mark, runEnd, again, ifTest};
+ghost use Rattle.items.specs.Item.{say, plainItem, text, signal, signalKind};
 ghost use Rattle.items.specs.Machine.{PrintsIn, PutsIn, allFit, store, storeRecord, noCounts};
 ghost use Rattle.items.specs.Entry.{Emitted, InRange, entryOf, lineOf, grownBy, grownWith, plainEntry, roomFor, storeEntry};
 ghost use Rattle.items.specs.declared.Printed.the-variants.{Done};
@@ -93,9 +92,7 @@ pub const END_IF: u32 = 17;
 // A condition on lines, where it goes by one number; no record is of this kind.
 pub const IF_LINES: u32 = 18;
 
-// The first operand of a condition.
-const ALWAYS: u64 = 0;
-
+// The first operand of a condition on lines.
 const LINES: u64 = 1;
 
 // Numbers from here on do not fit 32 bits.
@@ -398,65 +395,4 @@ pub fn print_signal(records: &mut [u32], texts: &mut [u8], s: Signal, p: Printed
     ensures { λ r. ⌜ PrintsIn records texts p r (say (signal s)) ⌝ }
 {
     emit(records, plain(signal_kind(s), 0, 0), p)
-}
-
-// Prints a line mark.
-pub fn print_mark(records: &mut [u32], texts: &mut [u8], m: Mark, p: Printed) -> Printed
-    ensures { λ r. ⌜ PrintsIn records texts p r (say (mark (m .0))) ⌝ }
-{
-    let e = Entry {
-        kind: MARK,
-        first: m.0,
-        second: 0,
-        bytes: 0,
-        runs: 0,
-        marks: 1,
-    };
-    emit(records, e, p)
-}
-
-// Begins a run with a number.
-pub fn print_run(records: &mut [u32], texts: &mut [u8], k: Run, p: Printed) -> Printed
-    ensures { λ r. ⌜ PrintsIn records texts p r (runAt (k .0)) ⌝ }
-{
-    let e = Entry {
-        kind: RUN,
-        first: k.0 as u64,
-        second: 0,
-        bytes: 0,
-        runs: 1,
-        marks: 0,
-    };
-    emit(records, e, p)
-}
-
-// Ends a run.
-pub fn end_run(records: &mut [u32], texts: &mut [u8], k: Run, p: Printed) -> Printed
-    ensures { λ r. ⌜ PrintsIn records texts p r (say (runEnd (k .0))) ⌝ }
-{
-    emit(records, plain(RUN_END, k.0 as u64, 0), p)
-}
-
-// Prints what a run holds once more.
-pub fn print_again(records: &mut [u32], texts: &mut [u8], k: Run, p: Printed) -> Printed
-    ensures { λ r. ⌜ PrintsIn records texts p r (say (again (k .0))) ⌝ }
-{
-    emit(records, plain(AGAIN, k.0 as u64, 0), p)
-}
-
-// A condition as a record.
-fn condition_entry(t: Condition) -> Entry
-    ensures { λ r. ⌜ r ≡ entryOf 0 (ifTest (conditionTest t)) ⌝ }
-{
-    match t {
-        Condition::Always => plain(IF, ALWAYS, 0),
-        Condition::Lines(m) => plain(IF, LINES, m.0),
-    }
-}
-
-// Begins the first branch of a condition.
-pub fn print_if(records: &mut [u32], texts: &mut [u8], t: Condition, p: Printed) -> Printed
-    ensures { λ r. ⌜ PrintsIn records texts p r (say (ifTest (conditionTest t))) ⌝ }
-{
-    emit(records, condition_entry(t), p)
 }
