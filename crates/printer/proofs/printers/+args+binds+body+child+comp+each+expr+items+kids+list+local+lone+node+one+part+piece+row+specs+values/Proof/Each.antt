@@ -1,4 +1,5 @@
 use Prim.Native.Nat.{ℕ, _-_}
+use native.Mathlib.Omega.{arith}
 use borrow.Author.Needs.{needs}
 use Rattle.printer.proofs.Rowing.{Eaching, eaching-none, eaching-kid, eaching-less, eaching-more, eaching-all}
 use Rattle.plan.specs.Plans.{held}
@@ -16,7 +17,15 @@ abbrev μ-loop : lts.MeasureT-loop
 μ-loop ops₀ cells₀ image index i x end j₀ ops cells j = end - j
 
 returns : (t : ℕ) → lts.Need-returns (each-claims t) (each-at t) each.Post Inv-loop μ-loop
-returns t c = search eaching-all
+returns t c =
+    let e = c .before .before .before in
+    eaching-all (c .before .loop .inv) (e .end-at .ensures) (c .loop-test .left)
+
+one-asked : (t : ℕ) → lts.Need-one-requires (each-claims t) (each-at t) each.Post Inv-loop μ-loop
+one-asked t c κs =
+    let l = c .before .before .before in
+    let s = l .before .before .before .before .before .before in
+    (omega (arith, s .pre .0), (eaching-kid (l .loop .inv) (l .before .before .end-at .ensures) (c .before .before .loop-test .taken), (s .pre .1 .1 .0, s .pre .1 .1 .1)))
 
 pub each-closed : {M : Type 1} (t : ℕ) → lts.Closed (each-claims t) (each-at t) each.Post M
 each-closed t =
@@ -29,7 +38,7 @@ each-closed t =
     (λ c κs. search needs)  -- end-at-requires
     (λ c κs. search needs)  -- first-in-requires
     (λ c. search eaching-none)  -- loop-holds
-    (λ c κs. (search needs, (search eaching-kid, (search needs, search needs))))  -- one-requires
+    (one-asked t)  -- one-requires
     (λ c κs. search needs)  -- end-at-requires-2
     (λ c. search eaching-less)  -- loop-less
     (λ c. search eaching-more)  -- loop-again

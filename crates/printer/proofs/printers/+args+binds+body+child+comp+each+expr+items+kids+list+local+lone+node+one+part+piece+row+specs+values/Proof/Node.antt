@@ -78,12 +78,12 @@ node-closed t =
     (λ c κs. element-fits (c .before .before .before .before .before .before .before .pre .1))  -- plan-token-requires
     (λ c. returns t c .sameOps)  -- same-length
     (returns t)  -- returns
-    (λ c κs. search needs)  -- expr-requires
-    (λ c κs. search needs)  -- list-requires
-    (λ c κs. search needs)  -- local-requires
-    (λ c κs. search needs)  -- comp-requires
-    (λ c κs. search needs)  -- list-requires-2
-    (λ c κs. search needs)  -- args-requires
+    (λ c κs. let s = c .before .before .before .before .before .before .before .before in (omega (arith, s .pre .0), s .pre .1))  -- expr-requires
+    (λ c κs. let s = c .before .before .before .before .before .before .before .before in (omega (arith, s .pre .0), s .pre .1))  -- list-requires
+    (λ c κs. let s = c .before .before .before .before .before .before .before .before in (omega (arith, s .pre .0), s .pre .1))  -- local-requires
+    (λ c κs. let s = c .before .before .before .before .before .before .before .before in (omega (arith, s .pre .0), s .pre .1))  -- comp-requires
+    (λ c κs. let s = c .before .before .before .before .before .before .before .before in (omega (arith, s .pre .0), s .pre .1))  -- list-requires-2
+    (λ c κs. let s = c .before .before .before .before .before .before .before .before in (omega (arith, s .pre .0), s .pre .1))  -- args-requires
     (row-asked t)  -- row-requires
     (λ c. returns-2 t c .sameOps)  -- same-length-2
     (returns-2 t)  -- returns-2

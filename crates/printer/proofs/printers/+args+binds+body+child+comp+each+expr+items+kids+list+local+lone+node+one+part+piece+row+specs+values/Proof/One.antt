@@ -35,11 +35,11 @@ one-closed t =
     (one-claims t)
     (one-at t)
     one.Post
-    (λ c κs. search needs)  -- kinds-wanted-requires
+    (λ c κs. c .before .before .before .pre .1 .1 .0)  -- kinds-wanted-requires
     (λ c κs. search needs)  -- kind-at-requires
     (λ c κs. search needs)  -- is-requires
     (returns t)  -- returns
-    (λ c κs. search needs)  -- plan-optional-requires
+    (λ c κs. c .before .before .before .before .before .before .before .before .before .pre .1 .1 .1)  -- plan-optional-requires
     (node-asked t)  -- node-requires
     (λ c κs. search needs)  -- plan-end-requires
     (λ c. returns-2 t c .sameOps)  -- same-length
