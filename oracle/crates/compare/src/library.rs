@@ -94,6 +94,17 @@ impl Room {
             listing: 0,
         }
     }
+
+    /// What an image of so many elements and bytes of text takes at most: a call in
+    /// this room counts nothing first.
+    pub fn ample(elements: usize, bytes: usize) -> Self {
+        let records = 24 * elements + 4 * bytes;
+        Self {
+            words: 3 * records,
+            bytes: 39 * records,
+            listing: 0,
+        }
+    }
 }
 
 /// The buffers of the calls.
