@@ -19,12 +19,13 @@ use tree::byte_count;
 use tree::element_count;
 ghost use mathlib.Core.Path.{_≡_};
 ghost use mathlib.Core.Option.{none};
+ghost use Prim.Native.Nat.{_≤_};
 ghost use Rattle.items.specs.Records.{countsOf};
 ghost use Rattle.tree.specs.Refusal.{refusal};
 ghost use Rattle.formatter.specs.Calls.{ServedIn, mostRecords, Sized, Ready, Foresees, Whole, plannedIn, Ample, shortage};
 
-// How many operations an array holds. The sum of 24 for each element and 4 for each byte picks one: a small image pays for
-// no clearing of a large one.
+// How many operations an array holds, eight times as many in each size. The sum of 24 for each element and 4 for each byte picks
+// one: a small image pays for no clearing of a large one.
 const SMALL: usize = 1_024;
 
 const MIDDLE: usize = 8_192;
@@ -32,6 +33,8 @@ const MIDDLE: usize = 8_192;
 const LARGE: usize = 65_536;
 
 const LARGEST: usize = 226_305;
+
+const NEXT_SIZE: usize = 8;
 
 // Records for each element and each byte of text, at most.
 const EACH_ELEMENT: usize = 24;
@@ -72,7 +75,7 @@ pub fn serve(
         Tested::Accepted {
             elements: _,
             bytes: _,
-        } => serve_accepted(image, records, texts, listing, listed),
+        } => serve_sized(image, records, texts, listing, listed, SMALL),
     }
 }
 
@@ -85,28 +88,30 @@ fn most_records(image: &[u8]) -> usize
     EACH_ELEMENT * elements + EACH_BYTE * bytes
 }
 
-// The same of an image that passed the tests 1 to 9.
-fn serve_accepted(
+// The same of an image that passed the tests 1 to 9, in arrays of a size, or of the next one where they may have too little room. A
+// function that calls itself stays a function of its own, and so does each that it calls with an array: a small image needs
+// no stack for a large one.
+fn serve_sized(
     image: &[u8],
     records: &mut [u32],
     texts: &mut [u8],
     listing: &mut [u8],
     listed: bool,
+    size: usize,
 ) -> ListAnswer
     requires { ⌜ refusal (now image) ≡ none ⌝ }
+    requires { ⌜ 1 ≤ size ⌝ }
     ensures { λ r. ⌜ ServedIn image records texts listing listed r ⌝ }
 {
-    let most = most_records(image);
-    if most < SMALL {
-        return serve_small(image, records, texts, listing, listed);
+    if size <= most_records(image) {
+        return serve_sized(image, records, texts, listing, listed, NEXT_SIZE * size);
     }
-    if most < MIDDLE {
-        return serve_middle(image, records, texts, listing, listed);
+    match size {
+        SMALL => serve_small(image, records, texts, listing, listed),
+        MIDDLE => serve_middle(image, records, texts, listing, listed),
+        LARGE => serve_large(image, records, texts, listing, listed),
+        _ => serve_largest(image, records, texts, listing, listed),
     }
-    if most < LARGE {
-        return serve_large(image, records, texts, listing, listed);
-    }
-    serve_largest(image, records, texts, listing, listed)
 }
 
 // The same in the smallest arrays.
