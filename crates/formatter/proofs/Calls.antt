@@ -37,7 +37,7 @@ use Rattle.formatter.specs.Answered.{Answered}
 use Rattle.formatter.specs.declared.ListAnswer.{ListAnswer}
 use Rattle.formatter.specs.declared.ListAnswer.the-variants.{Listed, Refused as Unlisted}
 use Rattle.formatter.specs.Reply.{replyListed, replyTo}
-use Rattle.formatter.specs.Calls.{asked, Served, mostRecords, Sized, Ready, plannedAt, Whole, Halts, Ample, shortage}
+use Rattle.formatter.specs.Calls.{asked, Served, mostRecords, Sized, Ready, plannedAt, Whole, Halts, ample, shortage}
 use Rattle.formatter.proofs.Counted.{records-bound, texts-bound}
 use Rattle.formatter.proofs.Fitted.{items-fit}
 use Rattle.formatter.proofs.Answering.{answered}
@@ -160,11 +160,9 @@ pub sized-most : {image : List ℕ} → refusal image ≡ none → Sized image 2
 sized-most {image} p = record { passed = p; few = omega (arith, most-small image p) }
 
 -- buffers that are ample
-pub ample-by : {image : List ℕ} {m w r : ℕ} → m ≡ mostRecords image → Ample image w r (leb (recordSize * m) w && leb (39 * m) r)
-ample-by {image} {m} {w} {r} e = record {
-  records = λ h. rw (← e) (leb-true _ _ (and-true (leb (recordSize * m) w) _ h .0));
-  texts = λ h. rw (← e) (leb-true _ _ (and-true (leb (recordSize * m) w) _ h .1));
-}
+pub ample-by : (image : List ℕ) {m : ℕ} (w r : ℕ) → m ≡ mostRecords image → (leb (recordSize * m) w && leb (39 * m) r) ≡ ample image w r
+unfolding ample
+ample-by image w r e = rw e refl
 
 -- an eighth of the operations, and three more, are room for the index
 pub sized-ready : {image table ops : List ℕ} {n : ℕ} → Sized image n → n ≤ length ops → n / 8 + 3 ≤ length table → Ready image table ops
@@ -254,17 +252,18 @@ module _ {image index ops : List ℕ} {m : ℕ} (rs ts ls : List ℕ) (listed : 
     }
 
 -- where there is room for all that an image may print
-module _ {image index ops : List ℕ} {m : ℕ} {rs ts : List ℕ} (ls : List ℕ) {b : Bool} (a : Bool) {rs′ ts′ : List ℕ} {c : Counts} (w : Whole image index ops m) (p : Ample image (length rs) (length ts) b) (q : (not a && b) ≡ true) (x : Puts (plannedAt image index ops m) rs ts noCounts rs′ ts′ c) where
+module _ {image index ops : List ℕ} {m : ℕ} {rs ts : List ℕ} (ls : List ℕ) {b : Bool} (a : Bool) {rs′ ts′ : List ℕ} {c : Counts} (w : Whole image index ops m) (p : b ≡ ample image (length rs) (length ts)) (q : (not a && b) ≡ true) (x : Puts (plannedAt image index ops m) rs ts noCounts rs′ ts′ c) where
   abbrev zs : List Item
   zs = plannedAt image index ops m
 
   pub prints-ample : (n : ℕ) → Served image rs ts ls a rs′ ts′ ls (done c (cond a (some n) none))
-  unfolding answer answerOf recordsAfter textsAfter bufferOf
+  unfolding answer answerOf recordsAfter textsAfter bufferOf ample
   prints-ample n =
       let (u, v) = and-true (not a) b q in
       let e : a ≡ false = not-true a u in
-      let k : recordSize * length zs ≤ length rs = omega (arith, few-records w, p .records v) in
-      let l : length (bytes zs) ≤ length ts = omega (arith, few-texts w, p .texts v) in
+      let (f, g) = and-true (leb (recordSize * mostRecords image) (length rs)) (leb (39 * mostRecords image) (length ts)) (sym p ∙ v) in
+      let k : recordSize * length zs ≤ length rs = omega (arith, few-records w, leb-true (recordSize * mostRecords image) (length rs) f) in
+      let l : length (bytes zs) ≤ length ts = omega (arith, few-texts w, leb-true (39 * mostRecords image) (length ts) g) in
       let r = rules-room image rs ts ls zs (whole-verdict w) k l in
       rw e (record {
         answers = rw (r, counted x) refl;

@@ -4,7 +4,7 @@ use mathlib.Core.Bool.{Bool, true, false, cond, _&&_}
 use mathlib.Core.Option.{Option, none, some}
 use mathlib.Core.List.{List}
 use Prim.Native.Nat.{ℕ, _+_, _*_, _<_, _≤_}
-use lib.Dec.{ltb}
+use lib.Dec.{ltb, leb}
 use lib.ListN.{length}
 use Rattle.text.specs.Lent.{Lent}
 use Rattle.numbers.specs.declared.Element.{Element}
@@ -111,10 +111,9 @@ pub record Foresees (image index ops : List ℕ) (o : Outlook) : Type 0 where
   pub stops : (e : Element) → o ≡ Stops e → Halts image (e .0)
   pub prints : (n : ℕ) → o ≡ Prints n → Whole image index ops n
 
--- Buffers of so many words and bytes have room for what an image prints, where r says so.
-pub record Ample (image : List ℕ) (words room : ℕ) (r : Bool) : Type 0 where
-  pub records : r ≡ true → recordSize * mostRecords image ≤ words
-  pub texts : r ≡ true → 39 * mostRecords image ≤ room
+-- buffers of so many words and bytes have room for all that an image may print
+unfoldable pub ample : List ℕ → ℕ → ℕ → Bool
+ample image words room = leb (recordSize * mostRecords image) words && leb (39 * mostRecords image) room
 
 -- 11, 12 and 13 by the counts and the bytes of the listing, for buffers of so many words and bytes
 unfoldable pub shortage : Counts → ℕ → ℕ → ℕ → ℕ → Bool → Room

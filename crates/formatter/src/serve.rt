@@ -22,7 +22,7 @@ ghost use mathlib.Core.Option.{none};
 ghost use Prim.Native.Nat.{_≤_};
 ghost use Rattle.items.specs.Records.{countsOf};
 ghost use Rattle.tree.specs.Refusal.{refusal};
-ghost use Rattle.formatter.specs.Calls.{ServedIn, mostRecords, Sized, Ready, Foresees, Whole, plannedIn, Ample, shortage};
+ghost use Rattle.formatter.specs.Calls.{ServedIn, mostRecords, Sized, Ready, Foresees, Whole, plannedIn, ample, shortage};
 
 // How many operations an array holds, eight times as many in each size. The sum of 24 for each element and 4 for each byte picks
 // one: a small image pays for no clearing of a large one.
@@ -255,7 +255,7 @@ fn serve_planned(
 // Whether buffers of so many words and bytes have room for all that an image may print: then nothing is counted first.
 fn is_ample(image: &[u8], words: usize, room: usize) -> bool
     requires { ⌜ refusal (now image) ≡ none ⌝ }
-    ensures { λ r. ⌜ Ample (now (image .entry)) words room r ⌝ }
+    ensures { λ r. ⌜ r ≡ ample (now (image .entry)) words room ⌝ }
 {
     let most = most_records(image);
     (RECORD * most <= words) & (EACH_RECORD * most <= room)

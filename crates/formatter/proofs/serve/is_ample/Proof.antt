@@ -11,5 +11,5 @@ is-ample-spec =
     (λ c κs. search needs)  -- most-records-requires
     (λ c. omega (arith, c .most-records .ensures, most-small _ (c .before .before .pre)))  -- mul-result
     (λ c. omega (arith, c .most-records .ensures, most-small _ (c .before .before .pre)))  -- mul-result-2
-    (λ c. ample-by (c .most-records .ensures))  -- returns
+    (λ c. ample-by _ _ _ (c .most-records .ensures))  -- returns
     )
