@@ -46,12 +46,6 @@ pub store-overlaid : (vs buffer : List ℕ) → length vs ≤ length buffer → 
 unfolding store
 store-overlaid vs buffer h = rw (zero-add (length vs)) at (sets-eq vs buffer 0 (rw (zero-add (length vs)) h))
 
--- nothing is stored in a buffer without room
-store-empty : (vs : List ℕ) (at : ℕ) → store [] at vs ≡ []
-unfolding store
-store-empty [] at = refl
-store-empty (v ∷ vs) at = store-empty vs (suc at)
-
 -- ---- all items from a state
 
 -- the state after all items, where their numbers fit
@@ -167,24 +161,6 @@ pub fits-start : (xs : List Item) → Fits xs → allFit xs noCounts ≡ true
 fits-start xs f =
     all-fit xs noCounts (f .operands) (rw (zero-add (length xs)) (f .records)) (rw (zero-add (length (bytes xs))) (f .texts))
     (rw (zero-add (runsOf xs)) (f .runs)) (rw (zero-add (marksOf xs)) (f .marks)) (rw (zero-add (length (recordLines 0 xs))) (f .lines))
-
--- a printing whose items fit comes to its end, with the records and texts in buffers of any size, as far as there is room
-pub run-fitting : (p : Print) (xs : List Item) (k : ℕ) (rs ts : List ℕ) → p 0 ≡ ok xs k → Fits xs → run p (starting rs ts) ≡ reached (written rs ts xs) k
-run-fitting p xs k rs ts e f = run-start p rs ts ∙ rw (e, fits-start xs f)
-
--- buffers with room hold the words of the records and the bytes of the texts, and go on as they were
-pub run-room :
-    (p : Print) (xs : List Item) (k : ℕ) (rs ts : List ℕ) → p 0 ≡ ok xs k → Fits xs → recordSize * length xs ≤ length rs → length (bytes xs) ≤ length ts
-    → run p (starting rs ts) ≡ reached (record { records = overlaid (words 0 xs) rs; texts = overlaid (bytes xs) ts; count = countsOf xs }) k
-run-room p xs k rs ts e f h₁ h₂ = run-fitting p xs k rs ts e f ∙ rw (store-overlaid (words 0 xs) rs (rw (words-length 0 xs) h₁), store-overlaid (bytes xs) ts h₂)
-
--- empty buffers stay empty, and all is counted
-pub run-empty : (p : Print) (xs : List Item) (k : ℕ) → p 0 ≡ ok xs k → Fits xs → run p (starting [] []) ≡ reached (record { records = []; texts = []; count = countsOf xs }) k
-run-empty p xs k e f = run-fitting p xs k [] [] e f ∙ rw (store-empty (words 0 xs) 0, store-empty (bytes xs) 0)
-
--- a printing that stops after items that fit stops at its element
-pub run-stopping : (p : Print) (xs : List Item) (e : ℕ) (rs ts : List ℕ) → p 0 ≡ stop xs e → Fits xs → run p (starting rs ts) ≡ halted e
-run-stopping p xs e rs ts h f = run-start p rs ts ∙ rw (h, fits-start xs f)
 
 -- a printing that comes to its end in some buffers has printed all its items, and counted them exactly
 pub run-reached :

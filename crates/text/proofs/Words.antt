@@ -57,6 +57,3 @@ module _ (ws : List String) (w : ℕ) {a b : ℕ} (h : w < length ws) (e : a ≡
   word-part =
       let n : b - a ≡ length (ascii (wordIn ws w)) = omega (arith, next-is) in
       rw (n, e) (sym (word-at ws w h))
-
-  pub word-length : b - a ≡ length (ascii (wordIn ws w))
-  word-length = omega (arith, next-is)

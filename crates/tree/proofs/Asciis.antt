@@ -2,7 +2,7 @@
 use mathlib.Core.Path.{_≡_, refl}
 use mathlib.Core.Bool.{true}
 use mathlib.Core.List.{List, [], _∷_}
-use Prim.Native.Nat.{ℕ, suc, _+_, _-_, _<_, _≤_}
+use Prim.Native.Nat.{ℕ, suc, max, _+_, _-_, _<_, _≤_}
 use native.Mathlib.Omega.{arith}
 use native.Mathlib.Decide.{decLt, ℕ-discrete}
 use lib.Dec.{ltb}
@@ -21,12 +21,12 @@ pub record Topping (s : List ℕ) (top i : ℕ) : Type 0 where
 pub topping-none : (s : List ℕ) → Topping s 0 0
 topping-none s = record { upto = omega arith; over = λ k h. absurd (omega arith) }
 
-pub topping-more : {s : List ℕ} {top i : ℕ} (t : ℕ) → Topping s top i → i < length s → top ≤ t → getD s i 0 ≤ t → Topping s t (i + 1)
-topping-more {s} {top} {i} t r h p q = record { upto = omega arith; over = λ k g. go k g (ℕ-discrete k i) }
+pub topping-more : {s : List ℕ} {top i : ℕ} (t : ℕ) → Topping s top i → i < length s → t ≡ max top (getD s i 0) → Topping s t (i + 1)
+topping-more {s} {top} {i} t r h p = record { upto = omega arith; over = λ k g. go k g (ℕ-discrete k i) }
   where
     go : (k : ℕ) → k < i + 1 → Dec (k ≡ i) → getD s k 0 ≤ t
-    go k g (yes e) = rw e q
-    go k g (no e) = omega (arith, r .over k (omega arith))
+    go k g (yes e) = rw e (omega (arith, p))
+    go k g (no e) = omega (arith, p, r .over k (omega arith))
 
 pub topping-all : {s : List ℕ} {top i : ℕ} → Topping s top i → length s ≤ i → ltb top 128 ≡ true → Ascii s
 topping-all {s} {top} {i} r h e = record { below = λ k. go k (decLt k (length s)) }

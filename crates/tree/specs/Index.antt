@@ -42,10 +42,6 @@ pub record Entry (index : List ℕ) (i kind end start : ℕ) : Type 0 where
 abbrev pub indexSize : List ℕ → ℕ
 indexSize image = countN image * 3 + 3
 
--- how many the index of the largest tree has
-abbrev pub largestIndex : ℕ
-largestIndex = 4096 * 3 + 3
-
 -- The entries of an index from element i on are the tree's.
 pub record IndexedFrom (image index : List ℕ) (i : ℕ) : Type 0 where
   pub room : indexSize image ≤ length index

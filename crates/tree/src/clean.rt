@@ -11,7 +11,7 @@ use numbers::kind;
 ghost use mathlib.Core.Path.{_≡_};
 ghost use mathlib.Core.Bool.{true, false, cond, _&&_, _||_};
 ghost use mathlib.Core.Option.{none};
-ghost use Prim.Native.Nat.{_+_, _≤_};
+ghost use Prim.Native.Nat.{max, _+_, _≤_};
 ghost use lib.Dec.{eqb, ltb, leb};
 ghost use lib.ListN.{length};
 ghost use Rattle.text.specs.Text.{valid};
@@ -22,9 +22,9 @@ ghost use Rattle.tree.specs.Clean.{Ascii, Sound, part};
 // The first byte that is not ASCII.
 const PAST_ASCII: u8 = 128;
 
+// The larger of two bytes.
 fn larger(a: u8, b: u8) -> u8
-    ensures { λ r. ⌜ a ≤ r ⌝ }
-    ensures { λ r. ⌜ b ≤ r ⌝ }
+    ensures { λ r. ⌜ r ≡ max a b ⌝ }
 {
     if a < b { b } else { a }
 }
