@@ -3,7 +3,7 @@ use mathlib.Core.Path.{_≡_, refl, sym, ap, _∙_}
 use mathlib.Core.Bool.{Bool, true, false, cond, not, _&&_, false≢true}
 use mathlib.Core.Option.{Option, none, some}
 use mathlib.Core.List.{List}
-use Prim.Native.Nat.{ℕ, _+_, _*_, _-_, _/_, _<_, _≤_}
+use Prim.Native.Nat.{ℕ, _+_, _*_, _-_, _/_, _<_, _≤_, _^_}
 use native.Mathlib.Omega.{arith}
 use native.Mathlib.Nat.{zero-add}
 use lib.Dec.{leb, ltb}
@@ -14,7 +14,8 @@ use Rattle.items.specs.Item.{Item, ok}
 use Rattle.items.specs.Role.{runsOf, marksOf}
 use Rattle.items.specs.Lines.{recordLines}
 use Rattle.items.specs.Records.{words, bytes, Counts, countsOf, overlaid, decoded, recordSize}
-use Rattle.items.specs.Machine.{allFit, countedAll, Puts, noCounts}
+use Rattle.items.specs.declared.Size.{Size}
+use Rattle.items.specs.Machine.{allFit, sized, Puts, noCounts, noSize}
 use Rattle.items.proofs.Decoding.{decoded-is, words-length}
 use Rattle.items.proofs.Fits.{Fits, fits-start, store-overlaid}
 use Rattle.numbers.specs.Refusal.{numberOf}
@@ -30,17 +31,20 @@ use Rattle.listing.specs.Writes.{page, Writes}
 use Rattle.listing.specs.Listable.{Listable, itemsIn}
 use Rattle.listing.proofs.Listable.{items-are, listable}
 use Rattle.printer.specs.Print.{sourceFile}
+use Rattle.formatter.specs.declared.Totals.{Totals}
+use Rattle.formatter.specs.declared.serve.Plan.{Plan}
 use Rattle.formatter.specs.declared.serve.Room.{Room}
 use Rattle.formatter.specs.declared.serve.Room.the-variants.{Enough, Short}
-use Rattle.formatter.specs.Answer.{Verdict, turnedAway, printed, fromPrinting, fromTests, verdict, withRoom, withListing, ruling, Answer, refused, done, answerOf, answer, bufferOf, recordsAfter, textsAfter, listingAfter}
+use Rattle.formatter.specs.Answer.{Verdict, turnedAway, printed, fromPrinting, fromTests, verdict, withRoom, withListing, ruling, Answer, refused, done, totalsOf, answerOf, answer, bufferOf, recordsAfter, textsAfter, listingAfter}
 use Rattle.formatter.specs.Answered.{Answered}
 use Rattle.formatter.specs.declared.ListAnswer.{ListAnswer}
 use Rattle.formatter.specs.declared.ListAnswer.the-variants.{Listed, Refused as Unlisted}
 use Rattle.formatter.specs.Reply.{replyListed, replyTo}
-use Rattle.formatter.specs.Calls.{asked, Served, mostRecords, Sized, Ready, plannedAt, Whole, Halts, ample, shortage}
+use Rattle.formatter.specs.Calls.{asked, Served, mostRecords, Sized, Ready, plannedAt, Whole, Halts, countsWith, totals, ample, shortage}
 use Rattle.formatter.proofs.Counted.{records-bound, texts-bound}
 use Rattle.formatter.proofs.Fitted.{items-fit}
-use Rattle.formatter.proofs.Answering.{answered}
+use Rattle.formatter.proofs.Agree.{agree}
+use Rattle.formatter.proofs.Answering.{same-ok, answered}
 
 -- ---- what the tests say
 
@@ -146,6 +150,11 @@ module _ (c : Counts) (n w r size : ℕ) (listed : Bool) where
       unfolding shortage
       all-room l = rw (le-ltb w (recordSize * c .records) h, le-ltb r (c .texts) k, l)
 
+-- where no listing is asked for, its length is not looked at
+unlisted : (c d : Counts) (m n w r size : ℕ) → (c .records ≡ d .records) × (c .texts ≡ d .texts) → shortage c m w r size false ≡ shortage d n w r size false
+unfolding shortage
+unlisted c d m n w r size (e, f) = rw (e, f) refl
+
 -- ---- sizes of arrays
 
 -- no image prints more
@@ -170,32 +179,40 @@ sized-ready s h k = record { passed = s .passed; tabled = omega (arith, s .few, 
 
 -- ---- a plan
 
--- a whole plan's items can be written
-whole-fits : {image index ops : List ℕ} {n : ℕ} → Whole image index ops n → Fits (plannedAt image index ops n)
-whole-fits {image} w = rw (w .prints) at (items-fit (accepted image (w .passed)))
+module _ {image index ops : List ℕ} {q : Plan} (w : Whole image index ops q) where
+  abbrev ys : List Item
+  ys = plannedAt image index ops q
 
-whole-verdict : {image index ops : List ℕ} {n : ℕ} → Whole image index ops n → verdict image ≡ printed (plannedAt image index ops n)
-unfolding verdict fromTests fromPrinting
-whole-verdict w = rw (w .passed, w .prints)
+  -- a whole plan's items can be written
+  whole-fits : Fits ys
+  whole-fits = rw (w .prints) at (items-fit (accepted image (w .passed)))
 
--- what is written from the start fits
-pub plan-fits : {image index ops : List ℕ} {n : ℕ} → Whole image index ops n → allFit (plannedAt image index ops n) noCounts ≡ true
-plan-fits w = fits-start _ (whole-fits w)
+  whole-verdict : verdict image ≡ printed ys
+  unfolding verdict fromTests fromPrinting
+  whole-verdict = rw (w .passed, w .prints)
 
-counted-start : (xs : List Item) → countedAll xs noCounts ≡ countsOf xs
-counted-start xs = rw (zero-add (length xs), zero-add (length (bytes xs)), zero-add (runsOf xs), zero-add (marksOf xs), zero-add (length (recordLines 0 xs))) refl
+  -- what is written from the start fits
+  pub plan-fits : allFit ys noCounts ≡ true
+  plan-fits = fits-start _ whole-fits
 
--- counts of what is written into any buffer
-pub counted : {xs : List Item} {rs ts rs′ ts′ : List ℕ} {c : Counts} → Puts xs rs ts noCounts rs′ ts′ c → c ≡ countsOf xs
-counted {xs} p = p .counts ∙ counted-start xs
+  -- each run's list has two marks
+  pairs : marksOf ys ≡ 2 * q .runs
+  pairs = let (_, _, m) = same-ok ys (q .runs) (rw (w .prints) at (agree (treeOf image) 0)) in rw (w .runs) m
 
--- ---- room for all that an image may print
+  pub marks-fit : 2 * q .runs < 2 ^ 32
+  marks-fit = rw (← pairs) (whole-fits .marks)
 
-module _ {image index ops : List ℕ} {n : ℕ} (w : Whole image index ops n) where
-  few-records : length (plannedAt image index ops n) ≤ mostRecords image
+  -- the counts of what is written or counted from the start; the lines are counted where they are listed
+  counted : (l : Bool) (p : Size) {c : Counts} → p ≡ sized l ys noSize → c ≡ countsWith p (q .runs)
+      → c ≡ record { records = length ys; texts = length (bytes ys); runs = runsOf ys; marks = marksOf ys; lines = cond l (length (recordLines 0 ys)) 0 }
+  counted l p e i = i ∙ rw (e, zero-add (length ys), zero-add (length (bytes ys)), zero-add (cond l (length (recordLines 0 ys)) 0), pairs, w .runs) refl
+
+  -- ---- room for all that an image may print
+
+  few-records : length ys ≤ mostRecords image
   few-records = rw (w .prints) at (records-bound (accepted image (w .passed)))
 
-  few-texts : length (bytes (plannedAt image index ops n)) ≤ 39 * mostRecords image
+  few-texts : length (bytes ys) ≤ 39 * mostRecords image
   few-texts = omega (arith, few-records, rw (w .prints) at (texts-bound (accepted image (w .passed))))
 
 -- ---- what both calls answer
@@ -205,70 +222,75 @@ long : (xs : List Item) (c : Counts) (n : ℕ) → c ≡ countsOf xs → n ≡ l
 unfolding listing
 long xs c n e l = rw (length-append (headLine (countsOf xs)) (recordLines 0 xs)) (rw e at l)
 
-module _ {image index ops : List ℕ} {m : ℕ} (rs ts ls : List ℕ) (listed : Bool) {c : Counts} {n : ℕ} {f : Room} (w : Whole image index ops m) (e : c ≡ countsOf (plannedAt image index ops m)) (l : n ≡ length (headLine c) + c .lines) (g : f ≡ shortage c n (length rs) (length ts) (length ls) listed) where
-  abbrev ys : List Item
-  ys = plannedAt image index ops m
+module _ {image index ops : List ℕ} {q : Plan} (rs ts ls : List ℕ) (listed : Bool) (z : Size) {c : Counts} {n : ℕ} {f : Room} (w : Whole image index ops q) (y : z ≡ sized listed (ys w) noSize) (e : c ≡ countsWith z (q .runs)) (l : n ≡ length (headLine c) + c .lines) (g : f ≡ shortage c n (length rs) (length ts) (length ls) listed) where
+  -- where lines are counted, the counts are those of the items, and n is the length of their listing
+  all-counted : listed ≡ true → (c ≡ countsOf (ys w)) × (n ≡ length (listing (ys w)))
+  all-counted j = let h : c ≡ countsOf (ys w) = counted w listed z y e ∙ rw j refl in (h, long (ys w) c n h l)
 
-  lacks : f ≡ short image rs ts ls ys (whole-verdict w) listed
-  lacks = g ∙ rw (long ys c n e l, e) refl
+  lacks : f ≡ short image rs ts ls (ys w) (whole-verdict w) listed
+  lacks = g ∙ go listed refl
+    where
+      go : (b : Bool) → listed ≡ b → shortage c n (length rs) (length ts) (length ls) b ≡ short image rs ts ls (ys w) (whole-verdict w) b
+      go true j = let (h, k) = all-counted j in rw (k, h) refl
+      go false j = unlisted c (countsOf (ys w)) n (length (listing (ys w))) (length rs) (length ts) (length ls) (let h = counted w listed z y e in (ap (λ (c : Counts). c .records) h, ap (λ (c : Counts). c .texts) h))
 
   -- a buffer is too short
   pub lacking : {r : Reason} → f ≡ Short r → Served image rs ts ls listed rs ts ls (refused (numberOf r) 0)
-  lacking i = turned image rs ts ls listed _ 0 (rules image rs ts ls ys (whole-verdict w) listed ∙ ap (left ys) (sym lacks ∙ i))
+  lacking i = turned image rs ts ls listed _ 0 (rules image rs ts ls (ys w) (whole-verdict w) listed ∙ ap (left (ys w)) (sym lacks ∙ i))
 
-  module _ (i : f ≡ Enough) {rs′ ts′ : List ℕ} {d : Counts} (x : Puts ys rs ts noCounts rs′ ts′ d) where
-    fitting : (recordSize * length ys ≤ length rs) × (length (bytes ys) ≤ length ts) × (listed ≡ true → length (listing ys) ≤ length ls)
-    fitting = roomy image rs ts ls ys (whole-verdict w) listed (sym lacks ∙ i)
+  module _ (i : f ≡ Enough) {rs′ ts′ : List ℕ} {d : Size} (x : Puts false (ys w) rs ts noSize rs′ ts′ d) where
+    fitting : (recordSize * length (ys w) ≤ length rs) × (length (bytes (ys w)) ≤ length ts) × (listed ≡ true → length (listing (ys w)) ≤ length ls)
+    fitting = roomy image rs ts ls (ys w) (whole-verdict w) listed (sym lacks ∙ i)
 
-    ruled : ruling image rs ts (asked listed ls) ≡ printed ys
-    ruled = rules image rs ts ls ys (whole-verdict w) listed ∙ ap (left ys) (sym lacks ∙ i)
+    ruled : ruling image rs ts (asked listed ls) ≡ printed (ys w)
+    ruled = rules image rs ts ls (ys w) (whole-verdict w) listed ∙ ap (left (ys w)) (sym lacks ∙ i)
 
-    laid-records : rs′ ≡ overlaid (words 0 ys) rs
-    laid-records = x .records ∙ store-overlaid (words 0 ys) rs (rw (words-length 0 ys) (fitting .0))
+    laid-records : rs′ ≡ overlaid (words 0 (ys w)) rs
+    laid-records = x .records ∙ store-overlaid (words 0 (ys w)) rs (rw (words-length 0 (ys w)) (fitting .0))
 
-    laid-texts : ts′ ≡ overlaid (bytes ys) ts
-    laid-texts = x .texts ∙ store-overlaid (bytes ys) ts (fitting .1)
+    laid-texts : ts′ ≡ overlaid (bytes (ys w)) ts
+    laid-texts = x .texts ∙ store-overlaid (bytes (ys w)) ts (fitting .1)
 
-    decodes : decoded rs′ ts′ (c .records) ≡ some ys
-    decodes = rw (laid-records, laid-texts, e) (decoded-is ys (drop (length (words 0 ys)) rs) (drop (length (bytes ys)) ts))
+    decodes : decoded rs′ ts′ (c .records) ≡ some (ys w)
+    decodes = rw (laid-records, laid-texts, counted w listed z y e) (decoded-is (ys w) (drop (length (words 0 (ys w))) rs) (drop (length (bytes (ys w))) ts))
+
+    totalled : {t : Totals} → t ≡ totals c → t ≡ totalsOf (ys w)
+    totalled k = k ∙ rw (counted w listed z y e) refl
 
     -- the records and texts are those of the items that are listed
-    pub tells : Listable rs′ ts′ c
-    tells = listable rs′ ts′ c ys decodes e
+    pub tells : listed ≡ true → Listable rs′ ts′ c
+    tells j = listable rs′ ts′ c (ys w) decodes (all-counted j .0)
 
     -- no listing is asked for
-    pub prints : listed ≡ false → Served image rs ts ls listed rs′ ts′ ls (done c (cond listed (some n) none))
+    pub prints : listed ≡ false → {t : Totals} → t ≡ totals c → Served image rs ts ls listed rs′ ts′ ls (done t (cond listed (some n) none))
     unfolding answer answerOf recordsAfter textsAfter bufferOf
-    prints j = record { answers = rw (j, rw j at ruled, e); records = rw (ruled) laid-records; texts = rw ruled laid-texts; listing = rw j refl }
+    prints j k = record { answers = rw (j, rw j at ruled, totalled k); records = rw (ruled) laid-records; texts = rw ruled laid-texts; listing = rw j refl }
 
     -- one is
-    pub lists : listed ≡ true → {ls′ : List ℕ} {k : ℕ} → Writes (listing (itemsIn rs′ ts′ (c .records))) (page ls 0) (page ls′ k) → Served image rs ts ls listed rs′ ts′ ls′ (done c (cond listed (some n) none))
+    pub lists : listed ≡ true → {t : Totals} → t ≡ totals c → {ls′ : List ℕ} {k : ℕ} → Writes (listing (itemsIn rs′ ts′ (c .records))) (page ls 0) (page ls′ k) → Served image rs ts ls listed rs′ ts′ ls′ (done t (cond listed (some n) none))
     unfolding answer answerOf recordsAfter textsAfter listingAfter bufferOf
-    lists j o = record {
-      answers = rw (j, rw j at ruled, long ys c n e l, e);
+    lists j k o = record {
+      answers = rw (j, rw j at ruled, all-counted j .1, totalled k);
       records = rw ruled laid-records;
       texts = rw ruled laid-texts;
-      listing = rw (j, rw j at ruled) (rw (items-are rs′ ts′ (c .records) ys decodes) at (o .stored) ∙ store-overlaid (listing ys) ls (fitting .2 j));
+      listing = rw (j, rw j at ruled) (rw (items-are rs′ ts′ (c .records) (ys w) decodes) at (o .stored) ∙ store-overlaid (listing (ys w)) ls (fitting .2 j));
     }
 
 -- where there is room for all that an image may print
-module _ {image index ops : List ℕ} {m : ℕ} {rs ts : List ℕ} (ls : List ℕ) {b : Bool} (a : Bool) {rs′ ts′ : List ℕ} {c : Counts} (w : Whole image index ops m) (p : b ≡ ample image (length rs) (length ts)) (q : (not a && b) ≡ true) (x : Puts (plannedAt image index ops m) rs ts noCounts rs′ ts′ c) where
-  abbrev zs : List Item
-  zs = plannedAt image index ops m
-
-  pub prints-ample : (n : ℕ) → Served image rs ts ls a rs′ ts′ ls (done c (cond a (some n) none))
+module _ {image index ops : List ℕ} {q : Plan} {rs ts : List ℕ} (ls : List ℕ) {b : Bool} (a : Bool) {rs′ ts′ : List ℕ} (d : Size) {c : Counts} {t : Totals} (w : Whole image index ops q) (p : b ≡ ample image (length rs) (length ts)) (h : (not a && b) ≡ true) (x : Puts false (ys w) rs ts noSize rs′ ts′ d) (i : c ≡ countsWith d (q .runs)) (j : t ≡ totals c) where
+  pub prints-ample : (n : ℕ) → Served image rs ts ls a rs′ ts′ ls (done t (cond a (some n) none))
   unfolding answer answerOf recordsAfter textsAfter bufferOf ample
   prints-ample n =
-      let (u, v) = and-true (not a) b q in
+      let (u, v) = and-true (not a) b h in
       let e : a ≡ false = not-true a u in
       let (f, g) = and-true (leb (recordSize * mostRecords image) (length rs)) (leb (39 * mostRecords image) (length ts)) (sym p ∙ v) in
-      let k : recordSize * length zs ≤ length rs = omega (arith, few-records w, leb-true (recordSize * mostRecords image) (length rs) f) in
-      let l : length (bytes zs) ≤ length ts = omega (arith, few-texts w, leb-true (39 * mostRecords image) (length ts) g) in
-      let r = rules-room image rs ts ls zs (whole-verdict w) k l in
+      let k : recordSize * length (ys w) ≤ length rs = omega (arith, few-records w, leb-true (recordSize * mostRecords image) (length rs) f) in
+      let l : length (bytes (ys w)) ≤ length ts = omega (arith, few-texts w, leb-true (39 * mostRecords image) (length ts) g) in
+      let r = rules-room image rs ts ls (ys w) (whole-verdict w) k l in
       rw e (record {
-        answers = rw (r, counted x) refl;
-        records = rw r (x .records ∙ store-overlaid (words 0 zs) rs (rw (words-length 0 zs) k));
-        texts = rw r (x .texts ∙ store-overlaid (bytes zs) ts l);
+        answers = rw (r, j, counted w false d (x .size) i) refl;
+        records = rw r (x .records ∙ store-overlaid (words 0 (ys w)) rs (rw (words-length 0 (ys w)) k));
+        texts = rw r (x .texts ∙ store-overlaid (bytes (ys w)) ts l);
         listing = refl;
       })
 
@@ -276,16 +298,16 @@ module _ {image index ops : List ℕ} {m : ℕ} {rs ts : List ℕ} (ls : List �
 
 module _ {image rs ts ls rs′ ts′ ls′ : List ℕ} {listed : Bool} {a b : Answer} (h : Served image rs ts ls listed rs′ ts′ ls′ a) (i : b ≡ a) where
   -- what holds of the buffers that come back with counts
-  holds : (c : Counts) (n : Option ℕ) → b ≡ done c n → Answered image rs′ ts′ c
+  holds : (c : Totals) (n : Option ℕ) → b ≡ done c n → Answered image rs′ ts′ c
   holds c n e = rw (h .records, h .texts) (answered image rs ts (asked listed ls) c n (sym (h .answers) ∙ sym i ∙ e))
 
   -- the clauses of the call that prints
-  pub stated : listed ≡ false → (b ≡ answer image rs ts none) × ((rs′ ≡ recordsAfter image rs ts none) × ((ts′ ≡ textsAfter image rs ts none) × ((c : Counts) (n : Option ℕ) → b ≡ done c n → Answered image rs′ ts′ c)))
+  pub stated : listed ≡ false → (b ≡ answer image rs ts none) × ((rs′ ≡ recordsAfter image rs ts none) × ((ts′ ≡ textsAfter image rs ts none) × ((c : Totals) (n : Option ℕ) → b ≡ done c n → Answered image rs′ ts′ c)))
   stated j = let k : asked listed ls ≡ none = rw j refl in (rw (← k) (i ∙ h .answers), (rw (← k) (h .records), (rw (← k) (h .texts), holds)))
 
   -- and of the one that lists
   pub stated-list : listed ≡ true
-      → (b ≡ answer image rs ts (some ls)) × ((rs′ ≡ recordsAfter image rs ts (some ls)) × ((ts′ ≡ textsAfter image rs ts (some ls)) × ((ls′ ≡ listingAfter image rs ts ls) × ((c : Counts) (n : Option ℕ) → b ≡ done c n → Answered image rs′ ts′ c))))
+      → (b ≡ answer image rs ts (some ls)) × ((rs′ ≡ recordsAfter image rs ts (some ls)) × ((ts′ ≡ textsAfter image rs ts (some ls)) × ((ls′ ≡ listingAfter image rs ts ls) × ((c : Totals) (n : Option ℕ) → b ≡ done c n → Answered image rs′ ts′ c))))
   stated-list j = let k : asked listed ls ≡ some ls = rw j refl in (rw (← k) (i ∙ h .answers), (rw (← k) (h .records), (rw (← k) (h .texts), (h .listing ∙ rw j refl, holds))))
 
 -- the answer of the call that lists

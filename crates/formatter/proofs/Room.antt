@@ -16,12 +16,13 @@ use Rattle.tree.specs.Refusal.{refusal}
 use Rattle.tree.proofs.Accepted.{Accepted, accepted}
 use Rattle.plan.specs.Ops.{sourceAt, operandLimit}
 use Rattle.plan.specs.Load.{numberIn, load}
-use Rattle.plan.specs.Plans.{Held, held, status, stoppedAt, count, noCells, Plans}
+use Rattle.plan.specs.Plans.{Held, held, status, stoppedAt, count, nextRun, noCells, Plans}
 use Rattle.plan.proofs.Loads.{load-length}
 use Rattle.plan.proofs.Whole.{planned-all, in-array, stopped-there}
 use Rattle.printer.specs.Print.{sourceFile}
 use Rattle.numbers.specs.declared.Element.{Element}
 use Rattle.formatter.specs.declared.serve.Outlook.the-variants.{Stops, Prints}
+use Rattle.formatter.specs.declared.serve.Plan.{Plan}
 use Rattle.formatter.specs.Calls.{Ready, Halts, Whole, Foresees}
 use Rattle.formatter.proofs.Agree.{Below, numbers-small}
 use Rattle.formatter.proofs.Counted.{records-bound}
@@ -44,20 +45,20 @@ module _ {image table index ops : List ℕ} {a : Held} (r : Ready image table op
   roomy : load (itemsOf (sourceFile (treeOf image) 0)) < min (length ops) (2 ^ 32 - 1)
   roomy = let c = accepted image (r .passed) in omega (arith, room c, r .planned, c .few-elements, c .few-bytes)
 
-  whole-plan : status a ≡ 0 → Whole image index (a .ops) (count a)
+  whole-plan : status a ≡ 0 → Whole image index (a .ops) (record { operations = count a; runs = nextRun a })
   whole-plan z =
       let (p, (k, l)) = planned-all (sourceAt image index) _ ops a h roomy z in
-      record { passed = r .passed; within = omega (arith, in-array (sourceAt image index) _ ops a h roomy z, h .sameOps); prints = rw k at p }
+      record { passed = r .passed; within = omega (arith, in-array (sourceAt image index) _ ops a h roomy z, h .sameOps); prints = p; runs = k }
 
   halting-plan : (status a ≡ 0 → ⊥) → Halts image (stoppedAt a)
   halting-plan z =
       let (xs, p) = stopped-there (sourceAt image index) _ ops a h roomy z in
       record { passed = r .passed; items = xs; stops = p }
 
-  pub foresees-all : {n : ℕ} {b : Bool} → b ≡ eqb (status a) 0 → b ≡ true → n ≡ count a → Foresees image index (a .ops) (Prints n)
-  foresees-all e g i = record {
+  pub foresees-all : {q : Plan} {b : Bool} → b ≡ eqb (status a) 0 → b ≡ true → q .operations ≡ count a → q .runs ≡ nextRun a → Foresees image index (a .ops) (Prints q)
+  foresees-all {q} e g i j = record {
     stops = λ e j. absurd (let z : _≡_ {A = ℕ} 0 1 = cc in omega arith);
-    prints = λ m j. let k : m ≡ count a = cc in rw k (whole-plan (eqb-true (status a) 0 (sym e ∙ g)));
+    prints = λ p k. let m : p ≡ q = cc in rw (m, i, j) (whole-plan (eqb-true (status a) 0 (sym e ∙ g)));
   }
 
   pub foresees-stop : {x : Element} {b : Bool} → b ≡ eqb (status a) 0 → b ≡ false → x .0 ≡ stoppedAt a → Foresees image index (a .ops) (Stops x)

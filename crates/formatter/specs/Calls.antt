@@ -12,12 +12,15 @@ use Rattle.numbers.specs.declared.refusal.Reason.the-variants.{RecordsTooShort,
 use Rattle.items.specs.Item.{Item, stop, ok}
 use Rattle.items.specs.Role.{runsOf}
 use Rattle.items.specs.Records.{Counts, recordSize}
+use Rattle.items.specs.declared.Size.{Size}
 use Rattle.tree.specs.Tree.{countN, countB, treeOf}
 use Rattle.tree.specs.Refusal.{refusal}
 use Rattle.tree.specs.Index.{indexSize}
 use Rattle.plan.specs.Ops.{sourceAt, decoded}
 use Rattle.printer.specs.Print.{sourceFile}
+use Rattle.formatter.specs.declared.Totals.{Totals}
 use Rattle.formatter.specs.declared.ListAnswer.{ListAnswer}
+use Rattle.formatter.specs.declared.serve.Plan.{Plan}
 use Rattle.formatter.specs.declared.serve.Room.{Room}
 use Rattle.formatter.specs.declared.serve.Room.the-variants.{Enough, Short}
 use Rattle.formatter.specs.declared.serve.Outlook.{Outlook}
@@ -49,7 +52,7 @@ listed listing = some (listing .entry .now)
 
 -- what holds of the buffers that come back, where the answer has counts
 abbrev pub AnsweredIn : Lent → Lent → Lent → Answer → Type 0
-AnsweredIn image records texts a = (c : Counts) (n : Option ℕ) → a ≡ done c n → Answered (image .entry .now) (records .exit .now) (texts .exit .now) c
+AnsweredIn image records texts a = (c : Totals) (n : Option ℕ) → a ≡ done c n → Answered (image .entry .now) (records .exit .now) (texts .exit .now) c
 
 -- ---- both at once
 
@@ -87,18 +90,16 @@ pub record Ready (image table ops : List ℕ) : Type 0 where
   pub tabled : indexSize image ≤ length table
   pub planned : mostRecords image < length ops
 
--- the items of the first n operations
-abbrev pub plannedAt : List ℕ → List ℕ → List ℕ → ℕ → List Item
-plannedAt image index ops n = decoded (sourceAt image index) ops n
+-- the items of a plan
+abbrev pub plannedAt : List ℕ → List ℕ → List ℕ → Plan → List Item
+plannedAt image index ops q = decoded (sourceAt image index) ops (q .operations)
 
-abbrev pub plannedIn : Lent → Lent → Lent → ℕ → List Item
-plannedIn image index ops n = plannedAt (image .entry .now) (index .entry .now) (ops .entry .now) n
-
--- The first n operations of a plan print what an image that passed prints.
-pub record Whole (image index ops : List ℕ) (n : ℕ) : Type 0 where
+-- A plan prints what an image that passed prints, and its runs are counted.
+pub record Whole (image index ops : List ℕ) (q : Plan) : Type 0 where
   pub passed : refusal image ≡ none
-  pub within : n ≤ length ops
-  pub prints : sourceFile (treeOf image) 0 ≡ ok (plannedAt image index ops n) (runsOf (plannedAt image index ops n))
+  pub within : q .operations ≤ length ops
+  pub prints : sourceFile (treeOf image) 0 ≡ ok (plannedAt image index ops q) (q .runs)
+  pub runs : q .runs ≡ runsOf (plannedAt image index ops q)
 
 -- The printing of an image that passed stops at element e.
 pub record Halts (image : List ℕ) (e : ℕ) : Type 0 where
@@ -109,7 +110,15 @@ pub record Halts (image : List ℕ) (e : ℕ) : Type 0 where
 -- What planning comes to.
 pub record Foresees (image index ops : List ℕ) (o : Outlook) : Type 0 where
   pub stops : (e : Element) → o ≡ Stops e → Halts image (e .0)
-  pub prints : (n : ℕ) → o ≡ Prints n → Whole image index ops n
+  pub prints : (q : Plan) → o ≡ Prints q → Whole image index ops q
+
+-- the counts of items by their size and their runs, with two marks for each
+abbrev pub countsWith : Size → ℕ → Counts
+countsWith p k = record { records = p .records; texts = p .texts; runs = k; marks = 2 * k; lines = p .lines }
+
+-- those of them that are answered
+abbrev pub totals : Counts → Totals
+totals c = record { records = c .records; texts = c .texts; runs = c .runs; marks = c .marks }
 
 -- buffers of so many words and bytes have room for all that an image may print
 unfoldable pub ample : List ℕ → ℕ → ℕ → Bool

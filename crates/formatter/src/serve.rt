@@ -1,7 +1,9 @@
 // What both calls do: tests, plan, room, and then records, texts and the listing, if one is asked for.
 use crate::ListAnswer;
+use crate::Totals;
 use items::Count;
 use items::RECORD;
+use items::Size;
 use listing::listing_length;
 use listing::write_listing;
 use numbers::Element;
@@ -9,8 +11,10 @@ use numbers::refusal::Reason;
 use numbers::refusal::Refusal;
 use numbers::refusal::whole;
 use plan::is_going;
+use plan::next_run;
 use plan::operations;
 use plan::stopped_at;
+use plan::write::count_ops;
 use plan::write::write_ops;
 use printer::plan_source;
 use tree::Tested;
@@ -19,10 +23,9 @@ use tree::byte_count;
 use tree::element_count;
 ghost use mathlib.Core.Path.{_≡_};
 ghost use mathlib.Core.Option.{none};
-ghost use Prim.Native.Nat.{_≤_};
-ghost use Rattle.items.specs.Records.{countsOf};
+ghost use Prim.Native.Nat.{_*_, _<_, _≤_, _^_};
 ghost use Rattle.tree.specs.Refusal.{refusal};
-ghost use Rattle.formatter.specs.Calls.{ServedIn, mostRecords, Sized, Ready, Foresees, Whole, plannedIn, ample, shortage};
+ghost use Rattle.formatter.specs.Calls.{ServedIn, mostRecords, Sized, Ready, Foresees, Whole, countsWith, totals, ample, shortage};
 
 // How many operations an array holds, eight times as many in each size. The sum of 24 for each element and 4 for each byte picks
 // one: a small image pays for no clearing of a large one.
@@ -47,10 +50,16 @@ const EACH_RECORD: usize = 39;
 // An index has three numbers for each element, an eighth of the records.
 const ELEMENT_ROOM: usize = EACH_ELEMENT / ENTRY;
 
-// What planning comes to: the element at which the Rust stops, or so many operations.
+// How many operations a plan has, and how many runs they begin.
+struct Plan {
+    operations: usize,
+    runs: u32,
+}
+
+// What planning comes to: the element at which the Rust stops, or a plan.
 enum Outlook {
     Stops(Element),
-    Prints(usize),
+    Prints(Plan),
 }
 
 // Whether buffers have room, or which is too short.
@@ -197,8 +206,8 @@ fn serve_in(
             reason: Reason::Stopped,
             element: e,
         }),
-        Outlook::Prints(n) => {
-            serve_planned(image, table, ops, n, records, texts, listing, listed)
+        Outlook::Prints(plan) => {
+            serve_planned(image, table, ops, plan, records, texts, listing, listed)
         }
     }
 }
@@ -212,9 +221,38 @@ fn plan_image(image: &[u8], table: &mut [u32], ops: &mut [u32]) -> Outlook
     let mut cells = [0u32; 8];
     plan_source(ops, &mut cells, image, table);
     if is_going(&cells) {
-        return Outlook::Prints(operations(&cells));
+        return Outlook::Prints(Plan {
+            operations: operations(&cells),
+            runs: next_run(&cells).0,
+        });
     }
     Outlook::Stops(stopped_at(&cells))
+}
+
+// The counts of a plan's items, by their size and the runs: each run's list has two marks.
+fn counts_with(p: Size, runs: u32) -> Count
+    requires { ⌜ 2 * runs < 2 ^ 32 ⌝ }
+    ensures { λ r. ⌜ r ≡ countsWith p runs ⌝ }
+{
+    Count {
+        records: p.records,
+        texts: p.texts,
+        runs,
+        marks: 2 * runs,
+        lines: p.lines,
+    }
+}
+
+// The counts that are answered.
+fn totals(c: Count) -> Totals
+    ensures { λ r. ⌜ r ≡ totals c ⌝ }
+{
+    Totals {
+        records: c.records,
+        texts: c.texts,
+        runs: c.runs,
+        marks: c.marks,
+    }
 }
 
 // The answer by a plan: why buffers are too short, or the counts of what is printed into them.
@@ -222,23 +260,26 @@ fn serve_planned(
     image: &[u8],
     index: &[u32],
     ops: &[u32],
-    n: usize,
+    plan: Plan,
     records: &mut [u32],
     texts: &mut [u8],
     listing: &mut [u8],
     listed: bool,
 ) -> ListAnswer
-    requires { ⌜ Whole (now image) (now index) (now ops) n ⌝ }
+    requires { ⌜ Whole (now image) (now index) (now ops) plan ⌝ }
     ensures { λ r. ⌜ ServedIn image records texts listing listed r ⌝ }
 {
+    let n = plan.operations;
     if !listed & is_ample(image, records.len(), texts.len()) {
-        let c = write_ops(records, texts, image, index, ops, n);
+        let p = write_ops(records, texts, image, index, ops, n);
         return ListAnswer::Listed {
-            counts: c,
+            counts: totals(counts_with(p, plan.runs)),
             bytes: 0,
         };
     }
-    let c = count_plan(image, index, ops, n);
+    let p = count_ops(image, index, ops, n, listed);
+    let c = counts_with(p, plan.runs);
+    let counts = totals(c);
     let bytes = listing_length(c);
     let size = listing.len();
     let f = fit(c, bytes, records.len(), texts.len(), size, listed);
@@ -249,7 +290,7 @@ fn serve_planned(
     if listed {
         write_listing(records, texts, c, listing);
     }
-    ListAnswer::Listed { counts: c, bytes }
+    ListAnswer::Listed { counts, bytes }
 }
 
 // Whether buffers of so many words and bytes have room for all that an image may print: then nothing is counted first.
@@ -259,16 +300,6 @@ fn is_ample(image: &[u8], words: usize, room: usize) -> bool
 {
     let most = most_records(image);
     (RECORD * most <= words) & (EACH_RECORD * most <= room)
-}
-
-// The counts of what a plan prints, by writing it into no buffer.
-fn count_plan(image: &[u8], index: &[u32], ops: &[u32], n: usize) -> Count
-    requires { ⌜ Whole (now image) (now index) (now ops) n ⌝ }
-    ensures { λ r. ⌜ r ≡ countsOf (plannedIn image index ops n) ⌝ }
-{
-    let mut records = [0u32; 0];
-    let mut texts = [0u8; 0];
-    write_ops(&mut records, &mut texts, image, index, ops, n)
 }
 
 // Whether buffers of so many words and bytes have room for what was counted, and one of so many bytes for its listing.

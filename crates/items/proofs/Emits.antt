@@ -1,6 +1,6 @@
 -- What a function that emits one item shows.
 use mathlib.Core.Path.{_≡_, refl, sym, _∙_}
-use mathlib.Core.Bool.{Bool, true, false, cond}
+use mathlib.Core.Bool.{Bool, true, false, cond, not, false≢true}
 use mathlib.Core.Option.{none, some}
 use mathlib.Core.List.{List, [], _∷_, append-nil}
 use Prim.Native.Nat.{ℕ, zero, suc, _+_, _≤_}
@@ -21,13 +21,14 @@ use Rattle.items.specs.declared.Printed.the-variants.{Done, Stopped, Ful
 use Rattle.items.specs.declared.Signal.{Signal}
 use Rattle.items.specs.Item.{Item, text, ok, Print, say, plainItem, signal, signalKind}
 use Rattle.items.specs.Role.{role, isRun, isMark}
-use Rattle.items.specs.Records.{bytesOf, words, bytes}
-use Rattle.items.specs.Machine.{State, store, allFit, Puts, counted, printable, emitted, emitAll, onward, reaching, finish, run, seen, held, Prints}
+use Rattle.items.specs.Records.{recordOf, bytesOf, words, bytes}
+use Rattle.items.specs.declared.Size.{Size}
+use Rattle.items.specs.Machine.{State, store, storeRecord, allFit, countsAt, sized, Puts, counted, printable, emitted, emitAll, onward, reaching, finish, run, seen, held, Prints}
 use Rattle.items.proofs.Lengths.{line-length}
 use Rattle.items.proofs.Laws.{Ended, stops, fills}
 use Rattle.items.specs.Entry.{entryOf, plainEntry, storeEntry, lineOf, grownBy, grownWith, InRange, advanced, continued, Emitted}
 use Rattle.items.specs.Lines.{recordLine, recordLines}
-use Rattle.items.specs.Names.{hasNumber}
+use Rattle.items.specs.Names.{hasNumber, lineLength}
 use Rattle.items.proofs.Numbers.{in-range-of}
 use Rattle.items.proofs.Printed.{the-type}
 
@@ -172,35 +173,44 @@ plain-bare k n at h l = go (eqb k 18) refl
 
 -- ---- items that are put where their numbers fit
 
-as-entry : {c : Count} {e f : Entry} → e ≡ f → InRange (lineOf f c) f c → InRange (lineOf e c) e c
-as-entry i h = rw i h
-
--- by the length of its line as the code has it
-pub in-line : {e : Entry} {c : Count} {n : ℕ} → n ≡ lineOf e c → InRange (lineOf e c) e c → InRange n e c
-in-line i h = rw i h
-
-pub out-line : (e : Entry) (c : Count) (rs : List ℕ) {rs′ : List ℕ} {d : Count} {n : ℕ} → n ≡ lineOf e c → (d ≡ grownWith n e c) × (rs′ ≡ storeEntry e c rs) → (d ≡ grownBy e c) × (rs′ ≡ storeEntry e c rs)
-out-line e c rs i (h, k) = (rw i at h, k)
-
 -- an item's numbers are in range where they fit
 pub one-fits : (x : Item) (c : Count) → allFit (x ∷ []) c ≡ true → InRange (lineOf (entryOf (c .texts) x) c) (entryOf (c .texts) x) c
 unfolding allFit
 one-fits x c h = in-range-of (entryOf (c .texts) x) c (rw (← (line-length (c .records) (c .texts) x)) at (and-true (printable c x) true h .0))
 
+-- the bytes of a line that is counted or not
+pub line-left : (l : Bool) (n : ℕ) → not l ≡ true → 0 ≡ cond l n 0
+line-left true n h = absurd (false≢true h)
+line-left false n h = refl
+
+pub line-taken : (l : Bool) {m n : ℕ} → not l ≡ false → m ≡ n → m ≡ cond l n 0
+line-taken true h e = e
+line-taken false h e = absurd (false≢true (sym h))
+
+pub line-most : (l : Bool) {m n : ℕ} → m ≡ cond l n 0 → m ≤ n
+line-most true e = omega arith
+line-most false e = omega arith
+
+-- the size after an item
+pub one-sized : (l : Bool) (x : Item) (at : ℕ) (p : Size) {d : Size} {n b : ℕ} → let r = recordOf at x in n ≡ cond l (lineLength (p .records) (r .kind) (r .first) (r .second)) 0 → b ≡ length (bytesOf x)
+    → d ≡ record { records = p .records + 1; texts = p .texts + b; lines = p .lines + n } → d ≡ sized l (x ∷ []) p
+unfolding bytes recordLines
+one-sized l x at p e i j = j ∙ rw (e, i, line-length (p .records) at x, append-nil (bytesOf x), append-nil (recordLine (p .records) x)) refl
+
 -- its record stands behind the others
-pub one-put : (x : Item) {rs ts rs′ ts′ : List ℕ} {c d : Count} {e : Entry} → e ≡ entryOf (c .texts) x → d ≡ grownBy e c → rs′ ≡ storeEntry e c rs → ts′ ≡ store ts (c .texts) (bytesOf x) → Puts (x ∷ []) rs ts c rs′ ts′ d
-unfolding words bytes recordLines sum
-one-put x {rs} {ts} {c = c} i j k l =
-    record {
-      records = k ∙ rw i refl;
-      texts = l ∙ rw (append-nil (bytesOf x)) refl;
-      counts = j ∙ rw (i, append-nil (bytesOf x), append-nil (recordLine (c .records) x), ← (line-length (c .records) (c .texts) x), add-zero (isRun (role x)), add-zero (isMark (role x))) refl;
-    }
+pub one-put : (x : Item) {rs ts rs′ ts′ : List ℕ} {p d : Size} → let r = recordOf (p .texts) x in rs′ ≡ storeRecord rs (p .records) (r .kind) (r .first) (r .second) → ts′ ≡ store ts (p .texts) (bytesOf x)
+    → d ≡ sized false (x ∷ []) p → Puts false (x ∷ []) rs ts p rs′ ts′ d
+unfolding words bytes
+one-put x k l j = record { records = k; texts = l ∙ rw (append-nil (bytesOf x)) refl; size = j }
 
 -- one without a text
-pub plain-put : (k n : ℕ) → 2 ≤ k → k ≤ 18 → {rs ts rs′ : List ℕ} {c d : Count} {e : Entry} → e ≡ entryOf 0 (plainItem k n) → d ≡ grownBy e c → rs′ ≡ storeEntry e c rs → Puts (plainItem k n ∷ []) rs ts c rs′ ts d
-unfolding store
-plain-put k n h l {ts = ts} {c = c} i j m = let (a, b) = plain-bare k n (c .texts) h l in one-put (plainItem k n) (i ∙ sym a) j m (rw b refl)
+module _ (k n : ℕ) (h : 2 ≤ k) (l : k ≤ 18) (p : Size) {e : Entry} (i : e ≡ entryOf 0 (plainItem k n)) where
+  pub plain-fits : allFit (plainItem k n ∷ []) (countsAt p) ≡ true → InRange (lineOf e (countsAt p)) e (countsAt p)
+  plain-fits f = rw (i ∙ sym (plain-bare k n (p .texts) h l .0)) (one-fits (plainItem k n) (countsAt p) f)
 
-pub plain-fits : (k n : ℕ) → 2 ≤ k → k ≤ 18 → {c : Count} {e : Entry} → e ≡ entryOf 0 (plainItem k n) → allFit (plainItem k n ∷ []) c ≡ true → InRange (lineOf e c) e c
-plain-fits k n h l {c} i f = as-entry (i ∙ sym (plain-bare k n (c .texts) h l .0)) (one-fits (plainItem k n) c f)
+  pub plain-sized : (b : Bool) {d : Size} {m : ℕ} → m ≡ cond b (lineLength (p .records) (e .kind) (e .first) (e .second)) 0 → d ≡ record { records = p .records + 1; texts = p .texts + 0; lines = p .lines + m } → d ≡ sized b (plainItem k n ∷ []) p
+  plain-sized b c j = one-sized b (plainItem k n) 0 p (rw i at c) (rw (plain-bare k n 0 h l .1) refl) j
+
+  pub plain-put : {rs ts rs′ : List ℕ} {d : Size} → rs′ ≡ storeRecord rs (p .records) (e .kind) (e .first) (e .second) → d ≡ record { records = p .records + 1; texts = p .texts + 0; lines = p .lines + 0 } → Puts false (plainItem k n ∷ []) rs ts p rs′ ts d
+  unfolding store
+  plain-put j m = let (a, b) = plain-bare k n (p .texts) h l in one-put (plainItem k n) (rw (i ∙ sym a) at j) (rw b refl) (plain-sized false refl m)

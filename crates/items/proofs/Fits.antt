@@ -9,7 +9,7 @@ use native.Mathlib.Nat.{add-zero, zero-add}
 use native.Mathlib.Numerals.{add-one}
 use lib.ListN.{length, set, length-append}
 use lib.Seq.{sets-eq, length-sets}
-use borrow.Author.Tests.{lt-ltb}
+use borrow.Author.Tests.{lt-ltb, ltb-true}
 use Rattle.text.specs.Basic.{sum, all, All, ∅, _▹_}
 use Rattle.items.specs.declared.Printed.{Printed}
 use Rattle.items.specs.declared.Printed.the-variants.{Done}
@@ -17,7 +17,8 @@ use Rattle.items.specs.Item.{always, lines, Item, signal, text, mark, ru
 use Rattle.items.specs.Role.{role, isRun, isMark, runsOf, marksOf}
 use Rattle.items.specs.Lines.{recordLine, recordLines}
 use Rattle.items.specs.Records.{recordOf, bytesOf, words, bytes, Counts, countsOf, overlaid, recordSize}
-use Rattle.items.specs.Machine.{State, store, counted, fit, printable, allFit, countedAll, Puts, emitted, emitAll, onward, Outcome, halted, full, reached, halting, reaching, finish, run, seen, Held, held, outcome, Prints, noCounts}
+use Rattle.items.specs.declared.Size.{Size}
+use Rattle.items.specs.Machine.{State, store, counted, fit, printable, allFit, countedAll, countsAt, sized, Puts, emitted, emitAll, onward, Outcome, halted, full, reached, halting, reaching, finish, run, seen, Held, held, outcome, Prints, noCounts}
 use Rattle.text.proofs.Lists.{and-true, sum-append}
 use Rattle.items.proofs.Laws.{Ended, stops, fills}
 use Rattle.items.proofs.Decoding.{words-length}
@@ -103,6 +104,12 @@ pub fit-true : {ns : List ℕ} → All (λ n. n < 2 ^ 32) ns → fit ns ≡ true
 unfolding fit all
 fit-true ∅ = refl
 fit-true (_▹_ {x = n} h p) = rw (lt-ltb n (2 ^ 32) h, fit-true p)
+
+-- numbers that are tested to fit are below the limit
+pub fits-below : (ns : List ℕ) → fit ns ≡ true → All (λ m. m < 2 ^ 32) ns
+unfolding fit all
+fits-below [] h = ∅
+fits-below (n ∷ ns) h = let (a, s) = and-true _ _ h in ltb-true n (2 ^ 32) a ▹ fits-below ns s
 
 -- the operands fit at any offset that fits
 short-at : (at : ℕ) (x : Item) → at < 2 ^ 32 → Short x → (recordOf at x .first < 2 ^ 32) × (recordOf at x .second < 2 ^ 32)
@@ -216,48 +223,94 @@ counted-append xs ys c =
     rw (lines-append (c .records) xs ys, length-append (recordLines (c .records) xs) (recordLines (c .records + length xs) ys)) (omega arith) in
     rw (a, b, d, e, f)
 
+-- the size after some items, and then others
+pub sized-append : (l : Bool) (xs ys : List Item) (p : Size) → sized l ys (sized l xs p) ≡ sized l (xs ++ ys) p
+sized-append l xs ys p =
+    let a : p .records + length xs + length ys ≡ p .records + length (xs ++ ys) = rw (length-append xs ys) (omega arith) in
+    let b : p .texts + length (bytes xs) + length (bytes ys) ≡ p .texts + length (bytes (xs ++ ys)) = rw (bytes-append xs ys, length-append (bytes xs) (bytes ys)) (omega arith) in
+    rw (a, b, go l)
+  where
+    go : (l : Bool) → p .lines + cond l (length (recordLines (p .records) xs)) 0 + cond l (length (recordLines (p .records + length xs) ys)) 0 ≡ p .lines + cond l (length (recordLines (p .records) (xs ++ ys))) 0
+    go true = rw (lines-append (p .records) xs ys, length-append (recordLines (p .records) xs) (recordLines (p .records + length xs) ys)) (omega arith)
+    go false = omega arith
+
+pub sized-none : (l : Bool) (p : Size) → p ≡ sized l [] p
+unfolding bytes recordLines
+sized-none true p = rw (add-zero (p .records), add-zero (p .texts), add-zero (p .lines))
+sized-none false p = rw (add-zero (p .records), add-zero (p .texts), add-zero (p .lines))
+
 -- some items, and then others
-pub puts-append : {xs ys : List Item} {rs ts rs′ ts′ rs″ ts″ : List ℕ} {c d e : Counts} → Puts xs rs ts c rs′ ts′ d → Puts ys rs′ ts′ d rs″ ts″ e → Puts (xs ++ ys) rs ts c rs″ ts″ e
-puts-append {xs} {ys} {rs} {ts} {c = c} p q =
-    let n : recordSize * (c .records + length xs) ≡ recordSize * c .records + length (words (c .texts) xs) = rw (words-length (c .texts) xs) (omega arith) in
+pub puts-append :
+    {l : Bool} {xs ys : List Item} {rs ts rs′ ts′ rs″ ts″ : List ℕ} {p d e : Size} → Puts l xs rs ts p rs′ ts′ d → Puts l ys rs′ ts′ d rs″ ts″ e → Puts l (xs ++ ys) rs ts p rs″ ts″ e
+puts-append {l} {xs} {ys} {rs} {ts} {p = p} h k =
+    let n : recordSize * (p .records + length xs) ≡ recordSize * p .records + length (words (p .texts) xs) = rw (words-length (p .texts) xs) (omega arith) in
     record {
-      records = q .records ∙ rw (p .records, p .counts, n, words-append (c .texts) xs ys) (store-append (words (c .texts) xs) (words (c .texts + length (bytes xs)) ys) rs (recordSize * c .records));
-      texts = q .texts ∙ rw (p .texts, p .counts, bytes-append xs ys) (store-append (bytes xs) (bytes ys) ts (c .texts));
-      counts = q .counts ∙ ap (countedAll ys) (p .counts) ∙ counted-append xs ys c;
+      records = k .records ∙ rw (h .records, h .size, n, words-append (p .texts) xs ys) (store-append (words (p .texts) xs) (words (p .texts + length (bytes xs)) ys) rs (recordSize * p .records));
+      texts = k .texts ∙ rw (h .texts, h .size, bytes-append xs ys) (store-append (bytes xs) (bytes ys) ts (p .texts));
+      size = k .size ∙ ap (sized l ys) (h .size) ∙ sized-append l xs ys p;
     }
 
 -- buffers keep their lengths
-pub puts-same : {xs : List Item} {rs ts rs′ ts′ : List ℕ} {c d : Counts} → Puts xs rs ts c rs′ ts′ d → (length rs′ ≡ length rs) × (length ts′ ≡ length ts)
+pub puts-same : {l : Bool} {xs : List Item} {rs ts rs′ ts′ : List ℕ} {p d : Size} → Puts l xs rs ts p rs′ ts′ d → (length rs′ ≡ length rs) × (length ts′ ≡ length ts)
 unfolding store
-puts-same {xs} {rs} {ts} {c = c} p = (ap length (p .records) ∙ length-sets rs (recordSize * c .records) (words (c .texts) xs), ap length (p .texts) ∙ length-sets ts (c .texts) (bytes xs))
+puts-same {xs = xs} {rs} {ts} {p = p} h = (ap length (h .records) ∙ length-sets rs (recordSize * p .records) (words (p .texts) xs), ap length (h .texts) ∙ length-sets ts (p .texts) (bytes xs))
 
-pub puts-none : (rs ts : List ℕ) (c : Counts) → Puts [] rs ts c rs ts c
-unfolding store words bytes sum recordLines
-puts-none rs ts c = record { records = refl; texts = refl; counts = rw (add-zero (c .records), add-zero (c .texts), add-zero (c .runs), add-zero (c .marks), add-zero (c .lines)) }
+pub puts-none : (l : Bool) (rs ts : List ℕ) (p : Size) → Puts l [] rs ts p rs ts p
+unfolding store words bytes
+puts-none l rs ts p = record { records = refl; texts = refl; size = sized-none l p }
 
 -- items that fit behind others
 counted-one : (x : Item) (c : Counts) → counted c x ≡ countedAll (x ∷ []) c
 unfolding bytes sum recordLines
 counted-one x c = rw (append-nil (bytesOf x), append-nil (recordLine (c .records) x), add-zero (isRun (role x)), add-zero (isMark (role x)))
 
+counted-none : (c : Counts) → c ≡ countedAll [] c
+unfolding bytes sum recordLines
+counted-none c = rw (add-zero (c .records), add-zero (c .texts), add-zero (c .runs), add-zero (c .marks), add-zero (c .lines))
+
 pub fit-append : (xs ys : List Item) (c : Counts) → allFit (xs ++ ys) c ≡ true → (allFit xs c ≡ true) × (allFit ys (countedAll xs c) ≡ true)
 unfolding allFit
-fit-append [] ys c h = (refl, rw (← (puts-none [] [] c .counts)) h)
+fit-append [] ys c h = (refl, rw (← (counted-none c)) h)
 fit-append (x ∷ xs) ys c h =
     let (p, q) = and-true (printable c x) _ h in
     let (r, s) = fit-append xs ys (counted c x) q in
     let e : countedAll xs (counted c x) ≡ countedAll (x ∷ xs) c = ap (countedAll xs) (counted-one x c) ∙ counted-append (x ∷ []) xs c in
     (rw (p, r) refl, sym (ap (allFit ys) e) ∙ s)
 
--- what a printer of items puts, where their numbers fit
-pub said-puts : (xs : List Item) {rs ts rs′ ts′ : List ℕ} {c : Counts} {p r : Printed} → allFit xs c ≡ true → p ≡ Done c → Prints (says xs) (held rs ts p) (held rs′ ts′ r) → {d : Counts} → r ≡ Done d → Puts xs rs ts c rs′ ts′ d
+-- the operands of an item and the counts after it
+abbrev numbersAfter : Item → Counts → List ℕ
+numbersAfter x c = let r = recordOf (c .texts) x in let a = counted c x in r .first ∷ r .second ∷ a .records ∷ a .texts ∷ a .runs ∷ a .marks ∷ a .lines ∷ []
+
+-- items fit behind lower counts of runs, marks and lines too
+pub fit-less :
+    (xs : List Item) (c d : Counts) → d .records ≡ c .records → d .texts ≡ c .texts → d .runs ≤ c .runs → d .marks ≤ c .marks → d .lines ≤ c .lines → allFit xs c ≡ true → allFit xs d ≡ true
+unfolding allFit
+fit-less [] c d e₁ e₂ l₁ l₂ l₃ h = refl
+fit-less (x ∷ xs) c d e₁ e₂ l₁ l₂ l₃ h =
+    let (p, q) = and-true (printable c x) (allFit xs (counted c x)) h in
+    rw (go (fits-below _ p), fit-less xs (counted c x) (counted d x) (rw e₁ refl) (rw e₂ refl) (omega (arith, l₁)) (omega (arith, l₂)) (rw e₁ (omega (arith, l₃))) q) refl
+  where
+    go : All (λ n. n < 2 ^ 32) (numbersAfter x c) → printable d x ≡ true
+    go (a₁ ▹ a₂ ▹ a₃ ▹ a₄ ▹ a₅ ▹ a₆ ▹ a₇ ▹ ∅) =
+        rw (e₁, e₂) (fit-true (a₁ ▹ a₂ ▹ a₃ ▹ a₄ ▹ omega (arith, a₅, l₁) ▹ omega (arith, a₆, l₂) ▹ omega (arith, a₇, l₃) ▹ ∅))
+
+-- what a printer of items puts, where their numbers fit, and what it counts
+pub said-puts :
+    (l : Bool) (xs : List Item) {rs ts rs′ ts′ : List ℕ} {z : Size} {p r : Printed} → allFit xs (countsAt z) ≡ true → p ≡ Done (countsAt z) → Prints (says xs) (held rs ts p) (held rs′ ts′ r) → {d : Counts} → r ≡ Done d
+    → {n : ℕ} → n ≡ cond l (d .lines) (z .lines) → Puts l xs rs ts z rs′ ts′ (record { records = d .records; texts = d .texts; lines = n })
 unfolding run seen says finish
-said-puts xs {rs} {ts} {rs′} {ts′} {c} f i h {d} j =
+said-puts l xs {rs} {ts} {rs′} {ts′} {z} f i h {d} j e =
+    let c = countsAt z in
     let σ : State = record { records = rs; texts = ts; count = c } in
     let τ : State = record { records = rs′; texts = ts′; count = d } in
-    let e : reached τ (d .runs) ≡ reached (allEmitted xs σ) (c .runs) = rw (i, j, all-emitted xs σ, f) at (h .ran) in
-    let z : τ ≡ allEmitted xs σ = cc in
-    record { records = ap (λ σ. σ .records) z; texts = ap (λ σ. σ .texts) z; counts = ap (λ σ. σ .count) z }
+    let k : reached τ (d .runs) ≡ reached (allEmitted xs σ) (c .runs) = rw (i, j, all-emitted xs σ, f) at (h .ran) in
+    let q : τ ≡ allEmitted xs σ = cc in
+    let m : d ≡ countedAll xs c = ap (λ σ. σ .count) q in
+    record { records = ap (λ σ. σ .records) q; texts = ap (λ σ. σ .texts) q; size = rw (m, rw m at e) (go l) }
+  where
+    go : (l : Bool) → record { records = z .records + length xs; texts = z .texts + length (bytes xs); lines = cond l (z .lines + length (recordLines (z .records) xs)) (z .lines) } ≡ sized l xs z
+    go true = refl
+    go false = rw (add-zero (z .lines)) refl
 
 -- it comes to its end
 pub said-done : (xs : List Item) {rs ts rs′ ts′ : List ℕ} {c : Counts} {p r : Printed} → allFit xs c ≡ true → p ≡ Done c → Prints (says xs) (held rs ts p) (held rs′ ts′ r) → Ended r → ⊥

@@ -14,7 +14,7 @@ use Rattle.items.specs.declared.Printed.the-variants.{Done, Full}
 use Rattle.items.specs.declared.Room.{Room}
 use Rattle.items.specs.declared.Room.the-variants.{Line, Nowhere}
 use Rattle.items.specs.Machine.{fit}
-use Rattle.items.proofs.Fits.{fit-true}
+use Rattle.items.proofs.Fits.{fit-true, fits-below}
 use Rattle.items.specs.Entry.{InRange, lineOf, grownBy, grownWith, roomFor, advanced}
 
 -- the largest of n and the numbers after it
@@ -34,12 +34,6 @@ misfits n (m ∷ ms) h = go (ltb n (2 ^ 32)) refl (misfits m ms)
     go : (b : Bool) → ltb n (2 ^ 32) ≡ b → (2 ^ 32 ≤ most m ms → fit (m ∷ ms) ≡ false) → (b && fit (m ∷ ms)) ≡ false
     go true e f = f (omega (arith, ltb-true n (2 ^ 32) e))
     go false e f = refl
-
--- numbers that are tested to fit are below the limit
-fits-below : (ns : List ℕ) → fit ns ≡ true → All (λ m. m < 2 ^ 32) ns
-unfolding fit all
-fits-below [] h = ∅
-fits-below (n ∷ ns) h = let (a, s) = and-true _ _ h in ltb-true n (2 ^ 32) a ▹ fits-below ns s
 
 -- a length or an operand that does not fit is met among the numbers that must fit
 over : (l f s r t n : ℕ) → 2 ^ 32 ≤ max l (max f s) → l ≤ t → 2 ^ 32 ≤ max f (max s (max r (max t n)))

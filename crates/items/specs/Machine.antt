@@ -10,6 +10,7 @@ use lib.Seq.{sets}
 use Rattle.text.specs.Basic.{all}
 use Rattle.text.specs.Lent.{Lent}
 use Rattle.items.specs.declared.Printed.{Printed}
+use Rattle.items.specs.declared.Size.{Size}
 use Rattle.items.specs.declared.Printed.the-variants.{Done, Stopped, Full}
 use Rattle.items.specs.Item.{Item, Out, stop, ok, Print, says}
 use Rattle.items.specs.Role.{role, isRun, isMark, runsOf, marksOf}
@@ -92,15 +93,28 @@ countedAll xs c =
       lines = c .lines + length (recordLines (c .records) xs);
     }
 
--- Items whose numbers fit, put behind what was printed: their records and texts, as far as there is room, and their counts.
-pub record Puts (xs : List Item) (rs ts : List ℕ) (c : Counts) (rs′ ts′ : List ℕ) (d : Counts) : Type 0 where
-  pub records : rs′ ≡ store rs (recordSize * c .records) (words (c .texts) xs)
-  pub texts : ts′ ≡ store ts (c .texts) (bytes xs)
-  pub counts : d ≡ countedAll xs c
+-- the counts that have a size, with no run and no mark
+abbrev pub countsAt : Size → Counts
+countsAt p = record { records = p .records; texts = p .texts; runs = 0; marks = 0; lines = p .lines }
+
+-- the size after items; lines are counted where they are listed
+abbrev pub sized : Bool → List Item → Size → Size
+sized listed xs p =
+    record {
+      records = p .records + length xs;
+      texts = p .texts + length (bytes xs);
+      lines = p .lines + cond listed (length (recordLines (p .records) xs)) 0;
+    }
+
+-- Items put behind what has a size: their records and texts, as far as there is room, and the size after them.
+pub record Puts (listed : Bool) (xs : List Item) (rs ts : List ℕ) (p : Size) (rs′ ts′ : List ℕ) (d : Size) : Type 0 where
+  pub records : rs′ ≡ store rs (recordSize * p .records) (words (p .texts) xs)
+  pub texts : ts′ ≡ store ts (p .texts) (bytes xs)
+  pub size : d ≡ sized listed xs p
 
 -- the same of what is lent
-abbrev pub PutsIn : Lent → Lent → Counts → Counts → List Item → Type 0
-PutsIn records texts c d xs = Puts xs (records .entry .now) (texts .entry .now) c (records .exit .now) (texts .exit .now) d
+abbrev pub PutsIn : Lent → Lent → Bool → Size → Size → List Item → Type 0
+PutsIn records texts listed p d xs = Puts listed xs (records .entry .now) (texts .entry .now) p (records .exit .now) (texts .exit .now) d
 
 -- How far printing has come: stopped at an element, a number no longer fits, or a state and the next list's number.
 pub data Outcome : Type 0 where
@@ -174,6 +188,10 @@ PrintsIn records texts p r q = Prints q (handed records texts p) (left records t
 -- the same of a printer of items that take no number: it prints xs
 abbrev pub SaysIn : Lent → Lent → Printed → Printed → List Item → Type 0
 SaysIn records texts p r xs = Says xs (handed records texts p) (left records texts r)
+
+-- nothing is put yet
+abbrev pub noSize : Size
+noSize = record { records = 0; texts = 0; lines = 0 }
 
 -- no counts yet
 abbrev pub noCounts : Counts

@@ -5,13 +5,14 @@ pub mod names;
 use numbers::Element;
 use numbers::Mark;
 ghost use mathlib.Core.Path.{_≡_};
-ghost use mathlib.Core.Bool.{true, cond};
+ghost use mathlib.Core.Bool.{true, false, cond};
 ghost use mathlib.Core.List.{[], _∷_};
 ghost use Prim.Native.Nat.{max, _+_, _<_, _≤_, _^_};
 ghost use lib.ListN.{length, set};
 ghost use Rattle.items.specs.Item.{say, plainItem, text, signal, signalKind};
-ghost use Rattle.items.specs.Machine.{PrintsIn, PutsIn, allFit, store, storeRecord, noCounts};
-ghost use Rattle.items.specs.Entry.{Emitted, InRange, entryOf, lineOf, grownBy, grownWith, plainEntry, roomFor, storeEntry};
+ghost use Rattle.items.specs.Machine.{PrintsIn, PutsIn, allFit, countsAt, sized, store, storeRecord, noCounts, noSize};
+ghost use Rattle.items.specs.Entry.{Emitted, InRange, entryOf, grownWith, plainEntry, roomFor, storeEntry};
+ghost use Rattle.items.specs.Names.{lineLength};
 ghost use Rattle.items.specs.declared.Printed.the-variants.{Done};
 
 // What was printed so far: records, bytes of their texts, runs and marks, and bytes of the lines that list the records.
@@ -20,6 +21,13 @@ pub struct Count {
     pub texts: u32,
     pub runs: u32,
     pub marks: u32,
+    pub lines: u32,
+}
+
+// How much is put: records, bytes of their texts and, where they are counted, of the lines that list the records.
+pub struct Size {
+    pub records: u32,
+    pub texts: u32,
     pub lines: u32,
 }
 
@@ -312,36 +320,102 @@ fn emit(records: &mut [u32], e: Entry, p: Printed) -> Printed
     Printed::Done(emit_on(records, c, e, line))
 }
 
-// Stores a record whose numbers fit, and gives the counts after it.
-fn put_fitting(records: &mut [u32], c: Count, e: Entry) -> Count
-    requires { ⌜ InRange (lineOf e c) e c ⌝ }
-    ensures { λ r. ⌜ (r ≡ grownBy e c) × (now (records .exit) ≡ storeEntry e c (now (records .entry))) ⌝ }
+// The size after one record more, with so many bytes of text and of its line.
+fn after(p: Size, bytes: u32, line: u32) -> Size
+    requires { ⌜ p .records + 1 < 2 ^ 32 ⌝ }
+    requires { ⌜ p .texts + bytes < 2 ^ 32 ⌝ }
+    requires { ⌜ p .lines + line < 2 ^ 32 ⌝ }
+    ensures { λ r. ⌜ r ≡ record { records = p .records + 1; texts = p .texts + bytes; lines = p .lines + line } ⌝ }
 {
-    let line = lines::line_length(c.records, e.kind, e.first as u32, e.second as u32);
-    emit_on(records, c, e, line as u32)
+    Size {
+        records: p.records + 1,
+        texts: p.texts + bytes,
+        lines: p.lines + line,
+    }
 }
 
-// Puts a text, also one of no bytes, behind what was printed. Its numbers must fit.
-pub fn put_text(records: &mut [u32], texts: &mut [u8], s: &[u8], c: Count) -> Count
-    requires { ⌜ allFit (text (now s) ∷ []) c ≡ true ⌝ }
-    ensures { λ r. ⌜ PutsIn records texts c r (text (now (s .entry)) ∷ []) ⌝ }
+// Puts a text, also one of no bytes, behind what was put. Its numbers must fit.
+pub fn put_text(records: &mut [u32], texts: &mut [u8], s: &[u8], p: Size) -> Size
+    requires { ⌜ allFit (text (now s) ∷ []) (countsAt p) ≡ true ⌝ }
+    ensures { λ r. ⌜ PutsIn records texts false p r (text (now (s .entry)) ∷ []) ⌝ }
 {
-    put_bytes(texts, c.texts as usize, s);
-    put_fitting(records, c, text_entry(c.texts, s.len()))
+    let bytes = s.len() as u32;
+    put_bytes(texts, p.texts as usize, s);
+    put_record(records, p.records, TEXT, p.texts, bytes);
+    after(p, bytes, 0)
 }
 
 // Puts an item without a text, by its kind and its number. Its numbers must fit.
-pub fn put_plain(records: &mut [u32], texts: &mut [u8], kind: u32, n: u32, c: Count) -> Count
+pub fn put_plain(records: &mut [u32], texts: &mut [u8], kind: u32, n: u32, p: Size) -> Size
     requires { ⌜ 2 ≤ kind ⌝ }
     requires { ⌜ kind ≤ 18 ⌝ }
-    requires { ⌜ allFit (plainItem kind n ∷ []) c ≡ true ⌝ }
-    ensures { λ r. ⌜ PutsIn records texts c r (plainItem kind n ∷ []) ⌝ }
+    requires { ⌜ allFit (plainItem kind n ∷ []) (countsAt p) ≡ true ⌝ }
+    ensures { λ r. ⌜ PutsIn records texts false p r (plainItem kind n ∷ []) ⌝ }
 {
-    put_fitting(records, c, plain_entry(kind, n))
+    let e = plain_entry(kind, n);
+    put_record(records, p.records, e.kind, e.first as u32, e.second as u32);
+    after(p, 0, 0)
+}
+
+// The bytes of a record's line, where lines are counted.
+fn line_if(listed: bool, n: u32, kind: u32, first: u32, second: u32) -> u32
+    requires { ⌜ lineLength n kind first second < 2 ^ 32 ⌝ }
+    ensures { λ r. ⌜ r ≡ cond listed (lineLength n kind first second) 0 ⌝ }
+{
+    if !listed {
+        return 0;
+    }
+    lines::line_length(n, kind, first, second) as u32
+}
+
+// The size after a text, with its line where lines are counted. Its numbers must fit.
+pub fn count_text(s: &[u8], listed: bool, p: Size) -> Size
+    requires { ⌜ allFit (text (now s) ∷ []) (countsAt p) ≡ true ⌝ }
+    ensures { λ r. ⌜ r ≡ sized listed (text (now (s .entry)) ∷ []) p ⌝ }
+{
+    let bytes = s.len() as u32;
+    let line = line_if(listed, p.records, TEXT, p.texts, bytes);
+    after(p, bytes, line)
+}
+
+// The size after an item without a text, with its line where lines are counted. Its numbers must fit.
+pub fn count_plain(kind: u32, n: u32, listed: bool, p: Size) -> Size
+    requires { ⌜ 2 ≤ kind ⌝ }
+    requires { ⌜ kind ≤ 18 ⌝ }
+    requires { ⌜ allFit (plainItem kind n ∷ []) (countsAt p) ≡ true ⌝ }
+    ensures { λ r. ⌜ r ≡ sized listed (plainItem kind n ∷ []) p ⌝ }
+{
+    let e = plain_entry(kind, n);
+    let line = line_if(listed, p.records, e.kind, e.first as u32, e.second as u32);
+    after(p, 0, line)
+}
+
+// The counts that have a size, with no run and no mark.
+pub fn counts_at(p: Size) -> Count
+    ensures { λ r. ⌜ r ≡ countsAt p ⌝ }
+{
+    Count {
+        records: p.records,
+        texts: p.texts,
+        runs: 0,
+        marks: 0,
+        lines: p.lines,
+    }
+}
+
+// Nothing is put yet.
+pub fn no_size() -> Size
+    ensures { λ r. ⌜ r ≡ noSize ⌝ }
+{
+    Size {
+        records: 0,
+        texts: 0,
+        lines: 0,
+    }
 }
 
 // No counts yet.
-pub fn no_counts() -> Count
+fn no_counts() -> Count
     ensures { λ r. ⌜ r ≡ noCounts ⌝ }
 {
     Count {

@@ -38,6 +38,10 @@ pub const MISSING_EXPR: u32 = 15;
 // How many there are.
 pub const WORDS: u32 = 50;
 
+// All of them joined.
+pub const ALL: [u8; 506] =
+    *b", [ ][]{ }{}()locallocal ;/*missing ExprBase*//*missing Expr*//*missing BinaryOperator*//*missing UnaryOperator*//*missing Text*//*missing Number*//*missing Literal*//*missing ObjBody*//*missing ImportKind*//*missing Name*/if  then /*missing core::option::Option<Expr>*/ else function/*missing ParamsDesc*/error ?..?/*missing SliceDesc*//*missing ArgsDesc*//*missing Assertion*//*missing Destruct*/ = /*missing ObjLocal*//*missing FieldName*//*missing Visibility*/for  in for [...:/*missing Bind*/assert : ";
+
 // Where the text with a number starts among all of them joined, which is where the one before it ends. A match of constants is one
 // load from a table that lies ready.
 fn start_of(w: u32) -> usize

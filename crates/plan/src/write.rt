@@ -1,25 +1,29 @@
-// Writes the records and texts of a plan.
+// Writes the records and texts of a plan, or counts them.
 use super::KINDS;
 use super::NOTE_ABOVE;
 use super::NOTE_INLINE;
 use super::TOKEN;
 use super::WORD;
+use super::words::ALL;
 use super::words::word_in;
 use comments::CommentLocation;
 use comments::format_comment;
-use items::Count;
 use items::Printed;
-use items::no_counts;
+use items::Size;
+use items::count_plain;
+use items::count_text;
+use items::counts_at;
+use items::no_size;
 use items::put_plain;
 use items::put_text;
 use tree::access::kind_at;
 use tree::access::text_at;
 ghost use mathlib.Core.Path.{_≡_};
-ghost use mathlib.Core.Bool.{true};
+ghost use mathlib.Core.Bool.{true, false, cond};
 ghost use Prim.Native.Nat.{_≤_};
 ghost use lib.ListN.{length};
 ghost use Rattle.text.specs.Words.{joinedWords};
-ghost use Rattle.items.specs.Machine.{PutsIn, allFit, noCounts};
+ghost use Rattle.items.specs.Machine.{PutsIn, allFit, countsAt, sized, noCounts, noSize};
 ghost use Rattle.comments.specs.Place.{place};
 ghost use Rattle.plan.specs.Words.{words};
 ghost use Rattle.plan.specs.Ops.{sourceAt, note, placeBy, opItems, decoded};
@@ -36,26 +40,38 @@ fn place_of(k: u32) -> CommentLocation
     }
 }
 
-// Writes the comment of element t.
-fn write_note(
+// The first where it is so, else the second.
+fn pick(b: bool, x: u32, y: u32) -> u32
+    ensures { λ r. ⌜ r ≡ cond b x y ⌝ }
+{
+    if b { x } else { y }
+}
+
+// Puts the comment of element t, and counts its lines where they are listed.
+fn put_note(
     records: &mut [u32],
     texts: &mut [u8],
     image: &[u8],
     index: &[u32],
     t: u32,
     loc: CommentLocation,
-    c: Count,
-) -> Count
-    requires { ⌜ allFit (note (sourceAt (now image) (now index)) t (place loc)) c ≡ true ⌝ }
-    ensures { λ r. ⌜ PutsIn records texts c r (note (sourceIn image index) t (place loc)) ⌝ }
+    listed: bool,
+    p: Size,
+) -> Size
+    requires { ⌜ allFit (note (sourceAt (now image) (now index)) t (place loc)) (countsAt p) ≡ true ⌝ }
+    ensures { λ r. ⌜ PutsIn records texts listed p r (note (sourceIn image index) t (place loc)) ⌝ }
 {
     let k = kind_at(index, t);
     let s = text_at(image, index, t);
-    let p = format_comment(records, texts, k, s, loc, Printed::Done(c));
-    let Printed::Done(d) = p else {
-        return c;
+    let q = format_comment(records, texts, k, s, loc, Printed::Done(counts_at(p)));
+    let Printed::Done(d) = q else {
+        return p;
     };
-    d
+    Size {
+        records: d.records,
+        texts: d.texts,
+        lines: pick(listed, d.lines, p.lines),
+    }
 }
 
 // Writes an operation; the formatter's own texts are lent.
@@ -66,27 +82,27 @@ fn write_op(
     index: &[u32],
     all: &[u8],
     op: u32,
-    c: Count,
-) -> Count
+    p: Size,
+) -> Size
     requires { ⌜ now all ≡ joinedWords words ⌝ }
-    requires { ⌜ allFit (opItems (sourceAt (now image) (now index)) op) c ≡ true ⌝ }
-    ensures { λ r. ⌜ PutsIn records texts c r (opItems (sourceIn image index) op) ⌝ }
+    requires { ⌜ allFit (opItems (sourceAt (now image) (now index)) op) (countsAt p) ≡ true ⌝ }
+    ensures { λ r. ⌜ PutsIn records texts false p r (opItems (sourceIn image index) op) ⌝ }
 {
     let k = op % KINDS;
     let v = op / KINDS;
     if k == TOKEN {
-        return put_text(records, texts, text_at(image, index, v), c);
+        return put_text(records, texts, text_at(image, index, v), p);
     }
     if k == WORD {
-        return put_text(records, texts, word_in(all, v), c);
+        return put_text(records, texts, word_in(all, v), p);
     }
     if NOTE_ABOVE <= k {
-        return write_note(records, texts, image, index, v, place_of(k), c);
+        return put_note(records, texts, image, index, v, place_of(k), false, p);
     }
-    put_plain(records, texts, k, v, c)
+    put_plain(records, texts, k, v, p)
 }
 
-// Writes the first n operations of a plan, as far as there is room, and counts what they print. All numbers must fit.
+// Writes the first n operations of a plan, as far as there is room. All numbers must fit.
 pub fn write_ops(
     records: &mut [u32],
     texts: &mut [u8],
@@ -94,18 +110,70 @@ pub fn write_ops(
     index: &[u32],
     ops: &[u32],
     n: usize,
-) -> Count
+) -> Size
     requires { ⌜ n ≤ length (now ops) ⌝ }
     requires { ⌜ allFit (decoded (sourceAt (now image) (now index)) (now ops) n) noCounts ≡ true ⌝ }
-    ensures { λ r. ⌜ PutsIn records texts noCounts r (decoded (sourceIn image index) (now (ops .entry)) n) ⌝ }
+    ensures { λ r. ⌜ PutsIn records texts false noSize r (decoded (sourceIn image index) (now (ops .entry)) n) ⌝ }
 {
-    let all: &[u8] =
-        b", [ ][]{ }{}()locallocal ;/*missing ExprBase*//*missing Expr*//*missing BinaryOperator*//*missing UnaryOperator*//*missing Text*//*missing Number*//*missing Literal*//*missing ObjBody*//*missing ImportKind*//*missing Name*/if  then /*missing core::option::Option<Expr>*/ else function/*missing ParamsDesc*/error ?..?/*missing SliceDesc*//*missing ArgsDesc*//*missing Assertion*//*missing Destruct*/ = /*missing ObjLocal*//*missing FieldName*//*missing Visibility*/for  in for [...:/*missing Bind*/assert : ";
-    let mut c = no_counts();
+    let all: &[u8] = &ALL;
+    let mut p = no_size();
     let mut i = 0;
     while i < n {
-        c = write_op(records, texts, image, index, all, ops[i], c);
+        p = write_op(records, texts, image, index, all, ops[i], p);
         i += 1;
     }
-    c
+    p
+}
+
+// The size after the comment of element t: it is put into no buffer.
+fn count_note(
+    image: &[u8],
+    index: &[u32],
+    t: u32,
+    loc: CommentLocation,
+    listed: bool,
+    p: Size,
+) -> Size
+    requires { ⌜ allFit (note (sourceAt (now image) (now index)) t (place loc)) (countsAt p) ≡ true ⌝ }
+    ensures { λ r. ⌜ r ≡ sized listed (note (sourceIn image index) t (place loc)) p ⌝ }
+{
+    let mut records = [0u32; 0];
+    let mut texts = [0u8; 0];
+    put_note(&mut records, &mut texts, image, index, t, loc, listed, p)
+}
+
+// The size after an operation; the formatter's own texts are lent.
+fn count_op(image: &[u8], index: &[u32], all: &[u8], op: u32, listed: bool, p: Size) -> Size
+    requires { ⌜ now all ≡ joinedWords words ⌝ }
+    requires { ⌜ allFit (opItems (sourceAt (now image) (now index)) op) (countsAt p) ≡ true ⌝ }
+    ensures { λ r. ⌜ r ≡ sized listed (opItems (sourceIn image index) op) p ⌝ }
+{
+    let k = op % KINDS;
+    let v = op / KINDS;
+    if k == TOKEN {
+        return count_text(text_at(image, index, v), listed, p);
+    }
+    if k == WORD {
+        return count_text(word_in(all, v), listed, p);
+    }
+    if NOTE_ABOVE <= k {
+        return count_note(image, index, v, place_of(k), listed, p);
+    }
+    count_plain(k, v, listed, p)
+}
+
+// The size of the first n operations of a plan, with their lines where they are listed. All numbers must fit.
+pub fn count_ops(image: &[u8], index: &[u32], ops: &[u32], n: usize, listed: bool) -> Size
+    requires { ⌜ n ≤ length (now ops) ⌝ }
+    requires { ⌜ allFit (decoded (sourceAt (now image) (now index)) (now ops) n) noCounts ≡ true ⌝ }
+    ensures { λ r. ⌜ r ≡ sized listed (decoded (sourceIn image index) (now (ops .entry)) n) noSize ⌝ }
+{
+    let all: &[u8] = &ALL;
+    let mut p = no_size();
+    let mut i = 0;
+    while i < n {
+        p = count_op(image, index, all, ops[i], listed, p);
+        i += 1;
+    }
+    p
 }

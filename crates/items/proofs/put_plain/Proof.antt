@@ -1,14 +1,25 @@
+use native.Mathlib.Omega.{arith}
 use Rattle.items.proofs.Emits.{plain-fits, plain-put}
 use borrow.Author.Needs.{needs}
 use Rattle.items.proofs.put_plain.Statement.{statement}
 use Rattle.items.proofs.put_plain.Tie as tie
+
+returns : tie.Need-returns
+returns c =
+    let r = c .before .before .before in
+    let e = r .before .before .before .before in
+    let h = e .before .before .before .pre in
+    plain-put _ _ (h .0) (h .1 .0) (e .before .before .before .args .p) (e .plain-entry .ensures) (r .put-record .ensures) (c .after .ensures)
 
 pub put-plain-spec : {M : Type 1} → statement M
 put-plain-spec =
     tie.close
     (tie.spec
     (λ c κs. search needs)  -- plain-entry-requires
-    (λ c κs. let s = c .before .before .before .before .pre in plain-fits _ _ (s .0) (s .1 .0) (c .plain-entry .ensures) (s .1 .1))  -- put-fitting-requires
+    (λ c. let e = c .before .before in let h = e .before .before .before .pre in omega (arith, plain-fits _ _ (h .0) (h .1 .0) (e .before .before .before .args .p) (e .plain-entry .ensures) (h .1 .1)))  -- cast-put-record
+    (λ c. let e = c .before .before .before in let h = e .before .before .before .pre in omega (arith, plain-fits _ _ (h .0) (h .1 .0) (e .before .before .before .args .p) (e .plain-entry .ensures) (h .1 .1)))  -- cast-put-record-2
+    (λ c κs. search needs)  -- put-record-requires
+    (λ c κs. let e = c .before .before .before .before .before .before in let s = e .before .before .before in let h = plain-fits _ _ (s .pre .0) (s .pre .1 .0) (s .args .p) (e .plain-entry .ensures) (s .pre .1 .1) in (h .records, (omega (arith, h .texts), omega (arith, h .lines))))  -- after-requires
     (λ c. search needs)  -- same-length
-    (λ c. let p = c .before .before in let s = c .before .before .before .before .before .before .before .pre in plain-put _ _ (s .0) (s .1 .0) (p .before .plain-entry .ensures) (p .put-fitting .ensures .0) (p .put-fitting .ensures .1))  -- returns
+    returns  -- returns
     )

@@ -11,10 +11,10 @@ use Rattle.plan.proofs.write.write_ops.Statement.{statement}
 use Rattle.plan.proofs.write.write_ops.Tie as tie
 
 abbrev Inv-loop : tie.InvT-loop
-Inv-loop records₀ texts₀ image index ops n all c₀ i₀ records texts c i = (all ≡ joinedWords words) × Writing (sourceAt image index) ops n records₀ texts₀ records texts c i
+Inv-loop records₀ texts₀ image index ops n all p₀ i₀ records texts p i = (all ≡ joinedWords words) × Writing (sourceAt image index) ops n records₀ texts₀ records texts p i
 
 abbrev μ-loop : tie.MeasureT-loop
-μ-loop records₀ texts₀ image index ops n all c₀ i₀ records texts c i = n - i
+μ-loop records₀ texts₀ image index ops n all p₀ i₀ records texts p i = n - i
 
 pub write-ops-spec : {M : Type 1} → statement M
 unfolding words flatten
@@ -24,8 +24,8 @@ write-ops-spec =
     Inv-loop
     μ-loop
     (λ c. search needs)  -- slice-aggregate-all
-    (λ c κs. search needs)  -- no-counts-requires
-    (λ c. (refl, writing-none _ _ _ _ _ (c .no-counts .ensures) (c .before .before .before .before .before .before .before .pre .1)))  -- loop-holds
+    (λ c κs. search needs)  -- no-size-requires
+    (λ c. (refl, writing-none _ _ _ _ _ (c .no-size .ensures) (c .before .before .before .before .before .before .before .pre .1)))  -- loop-holds
     (λ c. search needs)  -- mul-write-op
     (λ c. search needs)  -- shared-slice-read-write-op
     (λ c κs. (c .before .before .before .before .loop .inv .0, writing-fits (c .before .before .before .before .loop .inv .1) (c .before .before .before .loop-test .taken)))  -- write-op-requires
