@@ -42,6 +42,10 @@ pub feeds-known : (i t : List ℕ) (j k f : ℕ) → f ≡ spaceIn (partAt t i j
 unfolding spaceIn
 feeds-known i t j k f p e q = rw (← e, eq-eqb k 64 q) at p
 
+-- what `tallied` requires: only whitespace has line feeds
+pub space-none : (i t : List ℕ) (j k f : ℕ) → f ≡ spaceIn (partAt t i j) → k ≡ kindAt i j → (k ≡ 64 → ⊥) → f ≡ 0
+space-none i t j k f p e q = p ∙ sym (space-no i t j k e q)
+
 -- ---- other_turn
 
 pub other-out : (l h : Bool) (k : ℕ) → l ≡ true → h ≡ true → 7 ≡ code (otherTurn l h k)
