@@ -5,6 +5,9 @@ use borrow.Author.Needs.{needs}
 use Rattle.children.proofs.tally.tallied.Statement.{statement}
 use Rattle.children.proofs.tally.tallied.Tie as tie
 
+returns : tie.Need-returns
+returns c = search counted-none
+
 add-n : tie.Need-add-n
 add-n c =
     let e = c .before .before .before .before .before in
@@ -43,7 +46,7 @@ tallied-spec =
     (tie.spec
     (λ c κs. search needs)  -- is-error-requires
     (λ c κs. search needs)  -- is-trivia-requires
-    (λ c. search counted-none)  -- returns
+    returns  -- returns
     (λ c κs. search needs)  -- is-single-line-requires
     (λ c κs. search needs)  -- pick-requires
     (λ c κs. search needs)  -- pick-requires-2
