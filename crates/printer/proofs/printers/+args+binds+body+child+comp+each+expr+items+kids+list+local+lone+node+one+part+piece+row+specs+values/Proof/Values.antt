@@ -17,6 +17,9 @@ Inv-loop ops₀ cells₀ image index i z w s₀ ops cells s = Valuing image inde
 abbrev μ-loop : lts.MeasureT-loop
 μ-loop ops₀ cells₀ image index i z w s₀ ops cells s = z .to - s .to
 
+returns : (t : ℕ) → lts.Need-returns (values-claims t) (values-at t) values.Post Inv-loop μ-loop
+returns t c = by (values-over _ _ _ _ _ (c .if1 .taken)) idle
+
 returns-2 : (t : ℕ) → lts.Need-returns-2 (values-claims t) (values-at t) values.Post Inv-loop μ-loop
 returns-2 t c = by (values-foreign _ (survey-foreign _ (c .before .before .before .before .before .kinds-of .ensures) (c .before .before .before .before .survey .ensures) (c .before .before .if2 .taken))) (c .stop-at .ensures _ _)
 
@@ -50,7 +53,7 @@ values-closed t =
     values.Post
     Inv-loop
     μ-loop
-    (λ c. by (values-over _ _ _ _ _ (c .if1 .taken)) idle)  -- returns
+    (returns t)  -- returns
     (λ c κs. search needs)  -- kinds-of-requires
     (λ c κs. search needs)  -- survey-requires
     (λ c κs. search needs)  -- stop-at-requires
