@@ -1,12 +1,14 @@
 -- One element more in a gap: its lists, and its tally.
-use mathlib.Core.Path.{_≡_, refl}
-use mathlib.Core.Bool.{Bool, true, false, cond, not, _&&_, _||_}
+use mathlib.Core.Path.{_≡_, refl, sym, _∙_}
+use mathlib.Core.Bool.{Bool, true, false, cond, not, _&&_, _||_, or-false}
 use mathlib.Core.List.{List, [], _∷_, _++_, append-nil, append-assoc}
 use Prim.Native.Nat.{ℕ, zero, suc, _+_, _*_, _-_, _<_, _≤_}
 use native.Mathlib.Omega.{arith}
 use lib.Dec.{eqb}
 use lib.ListN.{length, take, drop}
+use borrow.Author.Tests.{not-true}
 use Rattle.text.specs.Basic.{count, any}
+use Rattle.text.proofs.Lists.{and-true}
 use Rattle.tree.specs.Class.{is, ofKind, kinds, allOf}
 use Rattle.tree.specs.declared.class.Class.the-variants as Class
 use Rattle.tree.specs.Index.{Table, partsFrom, partAt, kindAt, textAt, startAt, endAt}
@@ -18,7 +20,7 @@ use Rattle.children.specs.Stretch.{Jumps, notes, inlineIn, waitingIn}
 use Rattle.children.specs.Tally.{nothing, counted, Tells}
 use Rattle.children.proofs.Stretch.{note-kinds}
 use Rattle.children.proofs.Walks.{parts-more, all-more}
-use Rattle.children.proofs.Tallies.{tells-inline, tells-waiting}
+use Rattle.children.proofs.Tallies.{other-single, other-space, tells-inline, tells-waiting}
 
 -- ---- the lists of a gap
 
@@ -103,6 +105,38 @@ pub counted-is : (t : Tally) (follows : Bool) (k f : ℕ) {e v l : Bool} {p q m 
     → record { before = t .before + m; back = o; waits = (t .waits || e) || (v && not follows); ended = t .ended || ((v && not (eqb k 64)) && not follows); noted = (t .noted || e) || (v && not (eqb k 64)) } ≡ counted follows k f t
 unfolding counted
 counted-is t follows k f a b c d e g h i = rw (h, i, g, d, e, a, b, c)
+
+-- what an element that counts nothing makes of the numbers and tests of a tally
+none-before : (n : ℕ) (ended follows : Bool) → n + cond ended 0 (cond follows 0 0 + 0) ≡ n
+none-before n true follows = omega arith
+none-before n false true = omega arith
+none-before n false false = omega arith
+
+none-back : (n : ℕ) (follows : Bool) → cond follows (0 + n) n ≡ n
+none-back n true = omega arith
+none-back n false = refl
+
+none-told : (b : Bool) → ((b || false) || false) ≡ b
+none-told true = refl
+none-told false = refl
+
+-- an element that is neither trivia nor a custom error
+pub counted-none : (t : Tally) (follows : Bool) (k f : ℕ) {e v : Bool} → e ≡ ofKind Class.CustomError k → v ≡ ofKind Class.Trivia k → ((k ≡ 64 → ⊥) → f ≡ 0) → (not e && not v) ≡ true → t ≡ counted follows k f t
+unfolding counted
+counted-none t follows k f {e} {v} a b z h =
+    let (p, q) = and-true (not e) (not v) h in
+    let r : ofKind Class.Trivia k ≡ false = sym b ∙ not-true v q in
+    rw (
+      sym a ∙ not-true e p,
+      r,
+      other-single k r,
+      z (other-space k r),
+      none-before (t .before) (t .ended) follows,
+      none-back (t .back) follows,
+      none-told (t .waits),
+      or-false (t .ended),
+      none-told (t .noted),
+    )
 
 -- ---- the tally of a gap
 

@@ -5,11 +5,11 @@ use mathlib.Core.List.{List, [], _∷_, _++_, append-nil, reverse, reverse-appen
 use Prim.Native.Nat.{ℕ, suc, _+_}
 use native.Mathlib.Omega.{arith}
 use lib.Dec.{eqb, leb}
-use borrow.Author.Tests.{le-leb, lt-leb, leb-true, eqb-true}
+use borrow.Author.Tests.{le-leb, lt-leb, leb-true, eqb-true, ne-eqb}
 use Rattle.text.specs.Basic.{any, count, isNil}
 use Rattle.text.proofs.Lists.{and-true}
 use Rattle.tree.specs.Tree.{Part}
-use Rattle.tree.specs.Class.{is, oneOf, kinds}
+use Rattle.tree.specs.Class.{is, ofKind, oneOf, kinds}
 use Rattle.tree.specs.declared.class.Class.the-variants as Class
 use Rattle.children.specs.declared.tally.Tally.{Tally}
 use Rattle.children.specs.Reading.{isNote, newlinesBefore, newlinesBack}
@@ -25,16 +25,28 @@ not-error x e =
     let (u, v) = and-true (leb 64 (x .kind)) (leb (x .kind) 69) p in
     rw (lt-leb 70 (x .kind) (omega (arith, leb-true (x .kind) 69 v)))
 
-single-trivia : (x : Part) → is Class.SingleLine x ≡ true → is Class.Trivia x ≡ true
+single-trivia : (k : ℕ) → ofKind Class.SingleLine k ≡ true → ofKind Class.Trivia k ≡ true
 unfolding oneOf kinds
-single-trivia x e =
-    let (p, q) = and-true (leb 68 (x .kind) && leb (x .kind) 69) (not (eqb (x .kind) 0)) e in
-    let (u, v) = and-true (leb 68 (x .kind)) (leb (x .kind) 69) p in
-    rw (v, le-leb 64 (x .kind) (omega (arith, leb-true 68 (x .kind) u)), q)
+single-trivia k e =
+    let (p, q) = and-true (leb 68 k && leb k 69) (not (eqb k 0)) e in
+    let (u, v) = and-true (leb 68 k) (leb k 69) p in
+    rw (v, le-leb 64 k (omega (arith, leb-true 68 k u)), q)
 
-space-trivia : (x : Part) → x .kind ≡ 64 → is Class.Trivia x ≡ true
+space-trivia : (k : ℕ) → k ≡ 64 → ofKind Class.Trivia k ≡ true
 unfolding oneOf kinds
-space-trivia x e = rw e
+space-trivia k e = rw e
+
+-- what is no trivia is no single-line comment, and no whitespace
+module _ (k : ℕ) (e : ofKind Class.Trivia k ≡ false) where
+  pub other-single : ofKind Class.SingleLine k ≡ false
+  other-single = go (ofKind Class.SingleLine k) refl
+    where
+      go : (b : Bool) → ofKind Class.SingleLine k ≡ b → ofKind Class.SingleLine k ≡ false
+      go true r = absurd (false≢true (sym e ∙ single-trivia k r))
+      go false r = r
+
+  pub other-space : k ≡ 64 → ⊥
+  other-space q = false≢true (sym e ∙ space-trivia k q)
 
 space-single : (x : Part) → x .kind ≡ 64 → is Class.SingleLine x ≡ false
 unfolding oneOf kinds
@@ -52,7 +64,7 @@ sort x = go (eqb (x .kind) 64) refl (is Class.Trivia x) refl (is Class.CustomErr
   where
     go : (u : Bool) → eqb (x .kind) 64 ≡ u → (t : Bool) → is Class.Trivia x ≡ t → (e : Bool) → is Class.CustomError x ≡ e → Sort u t e
     go u p true q true r = absurd (false≢true (sym (not-error x q) ∙ r))
-    go true p false q e r = absurd (false≢true (sym q ∙ space-trivia x (eqb-true (x .kind) 64 p)))
+    go true p false q e r = absurd (other-space (x .kind) q (eqb-true (x .kind) 64 p))
     go true p true q false r = space
     go false p true q false r = remark
     go false p false q true r = error
@@ -104,12 +116,7 @@ back-inline x xs e = rw (reverse-append xs (x ∷ []), not-error x e) (go (eqb (
 
 back-other : (x : Part) (n : ℕ) → is Class.Trivia x ≡ false → n ≡ cond (is Class.SingleLine x) 1 (spaceIn x + n)
 unfolding spaceIn
-back-other x n e = go (eqb (x .kind) 64) refl (is Class.SingleLine x) refl
-  where
-    go : (b : Bool) → eqb (x .kind) 64 ≡ b → (l : Bool) → is Class.SingleLine x ≡ l → n ≡ cond l 1 (cond b (count 10 (x .text)) 0 + n)
-    go b q true r = absurd (false≢true (sym e ∙ single-trivia x r))
-    go true q false r = absurd (false≢true (sym e ∙ space-trivia x (eqb-true (x .kind) 64 q)))
-    go false q false r = omega arith
+back-other x n e = rw (other-single (x .kind) e, ne-eqb (x .kind) 64 (other-space (x .kind) e)) (omega arith)
 
 back-more : (x : Part) (xs : List Part) → newlinesBack (reverse (xs ++ cond (is Class.Trivia x) (x ∷ []) [])) ≡ cond (is Class.SingleLine x) 1 (spaceIn x + newlinesBack (reverse xs))
 back-more x xs = go (is Class.Trivia x) refl

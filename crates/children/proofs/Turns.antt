@@ -1,23 +1,29 @@
 -- The number of a turn, from the tests that the code makes.
 use mathlib.Core.Path.{_≡_, refl, _∙_, sym}
-use mathlib.Core.Bool.{Bool, true, false, cond, _&&_}
+use mathlib.Core.Bool.{Bool, true, false, cond, not, _&&_, and-true}
 use mathlib.Core.List.{List}
 use Prim.Native.Nat.{ℕ, _<_, _≤_}
-use lib.Dec.{leb}
-use borrow.Author.Tests.{le-leb, lt-leb, eq-eqb, ne-eqb}
+use native.Mathlib.Omega.{arith}
+use lib.Dec.{leb, eqb}
+use borrow.Author.Tests.{le-leb, lt-leb, leb-true, eq-eqb, ne-eqb}
 use Rattle.tree.specs.declared.class.Kinds.{Kinds}
-use Rattle.tree.specs.Class.{oneOf, ofKind, kinds}
+use Rattle.tree.specs.Class.{from, oneOf, kinds}
 use Rattle.text.specs.Basic.{count}
 use Rattle.children.specs.Gaps.{turn, code, triviaTurn, otherTurn, spaceIn}
 use Rattle.tree.specs.Index.{kindAt, textAt, partAt}
-use Rattle.tree.specs.declared.class.Class.{Class}
 use Rattle.tree.specs.declared.class.Class.the-variants as Class
 use Rattle.children.specs.Gaps
 
--- ---- of_class, line_feeds_of
+-- ---- is_trivia and its like, line_feeds_of
 
-pub class-of : (c : Class) (k : ℕ) (v : Kinds) (r : Bool) → v ≡ kinds c → r ≡ oneOf v k → r ≡ ofKind c k
-class-of c k v r p q = rw (← p) q
+-- a class of all kinds from a to b: none of them is 0
+pub range-is : (a b k : ℕ) → 0 < a → (leb a k && leb k b) ≡ oneOf (from a b) k
+unfolding oneOf
+range-is a b k h = go (leb a k) refl
+  where
+    go : (u : Bool) → leb a k ≡ u → (u && leb k b) ≡ ((u && leb k b) && not (eqb k 0))
+    go true e = rw (ne-eqb k 0 (λ z. omega (arith, leb-true a k e))) (sym (and-true (leb k b)))
+    go false e = refl
 
 pub feeds-of : (i t s : List ℕ) (j r : ℕ) → s ≡ textAt t i j → r ≡ count 10 s → r ≡ count 10 (textAt t i j)
 feeds-of i t s j r p q = rw (← p) q
@@ -35,6 +41,10 @@ space-no i t j k e q = rw (← e, ne-eqb k 64 q)
 pub feeds-known : (i t : List ℕ) (j k f : ℕ) → f ≡ spaceIn (partAt t i j) → k ≡ kindAt i j → k ≡ 64 → f ≡ count 10 (textAt t i j)
 unfolding spaceIn
 feeds-known i t j k f p e q = rw (← e, eq-eqb k 64 q) at p
+
+-- what `tallied` requires: only whitespace has line feeds
+pub space-none : (i t : List ℕ) (j k f : ℕ) → f ≡ spaceIn (partAt t i j) → k ≡ kindAt i j → (k ≡ 64 → ⊥) → f ≡ 0
+space-none i t j k f p e q = p ∙ sym (space-no i t j k e q)
 
 -- ---- other_turn
 

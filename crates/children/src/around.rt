@@ -1,11 +1,10 @@
 // trivia_before and trivia_after of a SourceFile.
+use super::turn::is_separator;
 use super::turn::note_kinds;
-use super::turn::of_class;
 use numbers::Element;
 use tree::Found;
 use tree::access::end_at;
 use tree::access::kind_at;
-use tree::class::Class;
 use tree::class::is;
 ghost use mathlib.Core.Path.{_≡_};
 ghost use mathlib.Core.Option.{none};
@@ -26,7 +25,7 @@ fn is_kept(k: u32) -> bool
     ensures { λ r. ⌜ r ≡ isKept k ⌝ }
 {
     let note = is(note_kinds(), k);
-    let separator = of_class(Class::Separator, k);
+    let separator = is_separator(k);
     note | separator
 }
 

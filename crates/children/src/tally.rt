@@ -1,7 +1,8 @@
 // What a gap holds, counted while it is walked.
-use super::turn::of_class;
+use super::turn::is_error;
+use super::turn::is_single_line;
+use super::turn::is_trivia;
 use numbers::kind::WHITESPACE;
-use tree::class::Class;
 ghost use mathlib.Core.Path.{_≡_};
 ghost use mathlib.Core.Bool.{cond};
 ghost use Prim.Native.Nat.{_+_, _<_, _^_};
@@ -37,14 +38,19 @@ fn pick(b: bool, x: usize, y: usize) -> usize
     if b { x } else { y }
 }
 
-// One element more, of kind k and with f line feeds if it is whitespace: before the cut, if the cut goes on with it, else behind.
+// One element more, of kind k and with f line feeds, 0 if it is no whitespace: before the cut, if the cut goes on with it, else
+// behind. What is neither trivia nor a custom error counts nothing.
 pub fn tallied(t: Tally, k: u32, f: usize, follows: bool) -> Tally
     requires { ⌜ t .before + t .back + f + 2 < 2 ^ 64 ⌝ }
+    requires { ⌜ ((k ≡ 64 → ⊥) → f ≡ 0) ⌝ }
     ensures { λ r. ⌜ r ≡ counted follows k f t ⌝ }
 {
-    let error = of_class(Class::CustomError, k);
-    let trivia = of_class(Class::Trivia, k);
-    let single = of_class(Class::SingleLine, k);
+    let error = is_error(k);
+    let trivia = is_trivia(k);
+    if !error & !trivia {
+        return t;
+    }
+    let single = is_single_line(k);
     let comment = trivia & (k != WHITESPACE);
     let n = pick(follows, 0, f) + pick(error, 1, 0);
     let inline = pick(single, 1, f + t.back);

@@ -2,13 +2,12 @@
 use numbers::kind;
 use tree::access::kind_at;
 use tree::access::text_at;
-use tree::class::Class;
 use tree::class::Kinds;
 use tree::class::is;
-use tree::class::kinds_of;
 ghost use mathlib.Core.Path.{_≡_};
 ghost use Rattle.text.specs.Basic.{count};
 ghost use Rattle.tree.specs.Class.{ofKind};
+ghost use Rattle.tree.specs.declared.class.Class.the-variants.{Trivia, SingleLine, CustomError, Separator};
 ghost use Rattle.tree.specs.Index.{textAt, partAt};
 ghost use Rattle.children.specs.Stretch.{notes};
 ghost use Rattle.children.specs.Gaps.{turn, triviaTurn, otherTurn, code, startedBy, hadBy, followsBy, spaceIn};
@@ -40,11 +39,32 @@ const OUT: u32 = 7;
 
 const FOREIGN: u32 = 8;
 
-// Whether k is of the class.
-pub fn of_class(c: Class, k: u32) -> bool
-    ensures { λ r. ⌜ r ≡ ofKind c k ⌝ }
+// Whether k is trivia.
+pub fn is_trivia(k: u32) -> bool
+    ensures { λ r. ⌜ r ≡ ofKind Trivia k ⌝ }
 {
-    is(kinds_of(c), k)
+    (kind::WHITESPACE <= k) & (k <= kind::SINGLE_LINE_SLASH_COMMENT)
+}
+
+// Whether k is a single-line comment.
+pub fn is_single_line(k: u32) -> bool
+    ensures { λ r. ⌜ r ≡ ofKind SingleLine k ⌝ }
+{
+    (kind::SINGLE_LINE_HASH_COMMENT <= k) & (k <= kind::SINGLE_LINE_SLASH_COMMENT)
+}
+
+// Whether k is a custom error.
+pub fn is_error(k: u32) -> bool
+    ensures { λ r. ⌜ r ≡ ofKind CustomError k ⌝ }
+{
+    (kind::ERROR_MISSING_TOKEN <= k) & (k <= kind::ERROR_CUSTOM)
+}
+
+// Whether k is a separator.
+pub fn is_separator(k: u32) -> bool
+    ensures { λ r. ⌜ r ≡ ofKind Separator k ⌝ }
+{
+    (kind::COMMA <= k) & (k <= kind::SEMI)
 }
 
 // Trivia and custom errors.
@@ -115,7 +135,7 @@ fn trivia_turn(image: &[u8], index: &[u32], started: bool, j: u32, f: usize) -> 
     if started {
         return WAIT;
     }
-    if of_class(Class::SingleLine, kind_at(index, j)) {
+    if is_single_line(kind_at(index, j)) {
         return LAST;
     }
     if feeds_of(image, index, j, f) >= 1 {
@@ -134,7 +154,7 @@ fn other_turn(loose: bool, had: bool, k: u32) -> u32
         }
         return OVER;
     }
-    if of_class(Class::Separator, k) {
+    if is_separator(k) {
         return SKIP;
     }
     FOREIGN
@@ -158,10 +178,10 @@ pub fn turn_of(
     if is(w, k) {
         return CHILD;
     }
-    if of_class(Class::Trivia, k) {
+    if is_trivia(k) {
         return trivia_turn(image, index, started, j, f);
     }
-    if of_class(Class::CustomError, k) {
+    if is_error(k) {
         return ERROR;
     }
     other_turn(loose, had, k)

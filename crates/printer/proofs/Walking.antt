@@ -3,11 +3,11 @@ use mathlib.Core.Path.{_≡_, sym, _∙_}
 use mathlib.Core.Bool.{Bool, true, false}
 use mathlib.Core.Option.{none as nothing, some}
 use mathlib.Core.List.{List, []}
-use Prim.Native.Nat.{ℕ, _-_, _<_}
+use Prim.Native.Nat.{ℕ, _-_, _<_, _≤_}
 use native.Mathlib.Omega.{arith}
 use lib.Dec.{eqb}
 use lib.ListN.{length}
-use Rattle.items.specs.Item.{Test, Print, stopped}
+use Rattle.items.specs.Item.{Test, Print, none, stopped}
 use Rattle.plan.specs.Ops.{sourceAt}
 use Rattle.plan.specs.Plans.{Held, Plans}
 use Rattle.plan.proofs.Laws.{by}
@@ -16,10 +16,11 @@ use Rattle.tree.specs.declared.class.Kinds.{Kinds}
 use Rattle.tree.specs.Class.{kinds}
 use Rattle.tree.specs.Index.{Region, endAt}
 use Rattle.tree.proofs.Children.{table}
+use Rattle.tree.proofs.Siblings.{parts-over}
 use Rattle.children.specs.declared.between.Bounds.{Bounds}
 use Rattle.children.specs.declared.gap.Span.{Span}
 use Rattle.children.specs.declared.survey.Outline.{Outline}
-use Rattle.children.specs.Reading.{Reading, foreign, read}
+use Rattle.children.specs.Reading.{Reading, foreign, read, pass}
 use Rattle.children.specs.Lead.{SurveyedAfter}
 use Rattle.children.specs.Gaps.{Gap, gapOf}
 use Rattle.children.specs.Spans.{Lies, Spans, Surveyed, spanned, gapAt}
@@ -27,7 +28,7 @@ use Rattle.children.proofs.Uses.{span-reached, survey-reading, survey-after-rea
 use Rattle.children.proofs.Whole.{whole}
 use Rattle.children.proofs.Stretch.{jumps-le}
 use Rattle.printer.specs.declared.lists.Style.{Style}
-use Rattle.printer.specs.Print.{valuesOf}
+use Rattle.printer.specs.Print.{values, valuesOf}
 use Rattle.printer.specs.Lists.{onLine, behindIt}
 use Rattle.printer.proofs.Seq.{Goes, goes-none, goes-more, goes-all}
 use Rattle.printer.specs.Under.{under, printOf}
@@ -145,6 +146,11 @@ module _ {image index : List ℕ} {i : ℕ} {w : Kinds} {z : Bounds} {s : Span} 
   valuing-all c k p x h e =
       by (rw (x .is, value-read (under image i) _ (sym (whole c (z .loose) _) ∙ x .is), ← k, p .read))
       (goes-all (h .goes) (value-none index image w (z .loose) (z .to) s (under image i) e))
+
+-- no element
+pub values-over : (pr : ℕ → Print) (c : Class) (index image : List ℕ) (z : Bounds) → z .to ≤ z .from → valuesOf pr (readAt image index c z nothing) ≡ none
+unfolding valuesOf values pass
+values-over pr c index image z h = rw (parts-over index image (z .from) (z .to) h)
 
 -- a foreign element
 pub values-foreign : (pr : ℕ → Print) {r : Reading} {n : ℕ} → r ≡ foreign n → valuesOf pr r ≡ stopped n

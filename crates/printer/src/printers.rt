@@ -214,7 +214,7 @@ fn expr(ops: &mut [u32], cells: &mut [u32; 8], image: &[u8], index: &[u32], i: u
     values(ops, cells, image, index, i, Class::Suffix, z);
 }
 
-// The children of a reading of element i, without their comments.
+// The children of a reading of element i, without their comments. Most readings have no element.
 fn values(
     ops: &mut [u32],
     cells: &mut [u32; 8],
@@ -227,6 +227,9 @@ fn values(
     requires { ⌜ Within (now image) (now index) i z ⌝ }
     ensures { λ _. ⌜ PlansIn ops cells image index (valuesOf (underIn image i) (readIn image index c z none)) ⌝ }
 {
+    if z.to <= z.from {
+        return;
+    }
     let w = kinds_of(c);
     let o = survey(image, index, w, z.loose, z.from, z.to);
     if o.last.end != AT_END {

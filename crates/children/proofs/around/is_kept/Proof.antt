@@ -9,6 +9,6 @@ is-kept-spec =
     (tie.spec
     (λ c κs. search needs)  -- note-kinds-requires
     (λ c κs. search needs)  -- is-requires
-    (λ c κs. search needs)  -- of-class-requires
-    (λ c. kept-is _ (c .before .before .note-kinds .ensures) (c .before .is .ensures) (c .of-class .ensures))  -- returns
+    (λ c κs. search needs)  -- is-separator-requires
+    (λ c. kept-is _ (c .before .before .note-kinds .ensures) (c .before .is .ensures) (c .is-separator .ensures))  -- returns
     )

@@ -1,5 +1,6 @@
 use Prim.Native.Nat.{_-_}
 use native.Mathlib.Omega.{arith}
+use Rattle.children.proofs.Turns.{space-none}
 use Rattle.children.proofs.Spanning.{Spanning, spanning-none, spanning-fits, spanning-more, spanning-stop, spanning-all, spanning-less}
 use borrow.Author.Needs.{needs}
 use Rattle.children.proofs.gap.gap.Statement.{statement}
@@ -29,7 +30,7 @@ gap-spec =
     (λ c κs. search needs)  -- had-by-requires
     (λ c κs. search needs)  -- started-by-requires
     (λ c κs. search needs)  -- kind-at-requires
-    (λ c κs. omega (arith, spanning-fits (c .before .before .before .before .before .before .before .before .before .before .loop .inv) (c .before .before .before .before .before .before .before .before .before .loop-test .taken) _ (c .before .before .before .before .before .before .before .before .space-of .ensures), c .before .before .before .before .before .before .before .before .before .before .before .before .before .before .good))  -- tallied-requires
+    (λ c κs. (omega (arith, spanning-fits (c .before .before .before .before .before .before .before .before .before .before .loop .inv) (c .before .before .before .before .before .before .before .before .before .loop-test .taken) _ (c .before .before .before .before .before .before .before .before .space-of .ensures), c .before .before .before .before .before .before .before .before .before .before .before .before .before .before .good), space-none _ _ _ _ _ (c .before .before .before .before .before .before .before .before .space-of .ensures) (c .kind-at .ensures)))  -- tallied-requires
     (λ c. search spanning-less)  -- loop-less
     (λ c. search spanning-more)  -- loop-again
     (λ c κs. search needs)  -- span-of-requires-2

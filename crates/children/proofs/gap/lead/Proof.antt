@@ -1,5 +1,6 @@
 use Prim.Native.Nat.{_-_}
 use native.Mathlib.Omega.{arith}
+use Rattle.children.proofs.Turns.{space-none}
 use Rattle.children.proofs.Leading.{Leading, leading-none, leading-fits, leading-more, leading-stop, leading-all, leading-less}
 use borrow.Author.Needs.{needs}
 use Rattle.children.proofs.gap.lead.Statement.{statement}
@@ -24,7 +25,7 @@ lead-spec =
     (λ c κs. search needs)  -- span-of-requires
     (λ c. search leading-stop)  -- returns
     (λ c κs. search needs)  -- kind-at-requires
-    (λ c κs. omega (arith, leading-fits (c .before .before .before .before .before .loop .inv) (c .before .before .before .before .loop-test .taken) _ (c .before .before .before .space-of .ensures), c .before .before .before .before .before .before .before .before .before .good))  -- tallied-requires
+    (λ c κs. (omega (arith, leading-fits (c .before .before .before .before .before .loop .inv) (c .before .before .before .before .loop-test .taken) _ (c .before .before .before .space-of .ensures), c .before .before .before .before .before .before .before .before .before .good), space-none _ _ _ _ _ (c .before .before .before .space-of .ensures) (c .kind-at .ensures)))  -- tallied-requires
     (λ c κs. search needs)  -- end-at-requires
     (λ c. search leading-less)  -- loop-less
     (λ c. search leading-more)  -- loop-again

@@ -9,7 +9,7 @@ other-turn-spec =
     (tie.spec
     (λ c. search other-out)  -- returns
     (λ c. search other-over)  -- returns-2
-    (λ c κs. search needs)  -- of-class-requires
+    (λ c κs. search needs)  -- is-separator-requires
     (λ c. search other-skip)  -- returns-3
     (λ c. search other-foreign)  -- returns-4
     )

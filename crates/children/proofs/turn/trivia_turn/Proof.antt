@@ -9,7 +9,7 @@ trivia-turn-spec =
     (tie.spec
     (λ c. search trivia-started)  -- returns
     (λ c κs. search needs)  -- kind-at-requires
-    (λ c κs. search needs)  -- of-class-requires
+    (λ c κs. search needs)  -- is-single-line-requires
     (λ c. search trivia-last)  -- returns-2
     (λ c κs. search needs)  -- feeds-of-requires
     (λ c. search trivia-breaks)  -- returns-3

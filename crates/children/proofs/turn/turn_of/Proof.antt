@@ -10,10 +10,10 @@ turn-of-spec =
     (λ c κs. search needs)  -- kind-at-requires
     (λ c κs. search needs)  -- is-requires
     (λ c. search turn-child)  -- returns
-    (λ c κs. search needs)  -- of-class-requires
+    (λ c κs. search needs)  -- is-trivia-requires
     (λ c κs. search needs)  -- trivia-turn-requires
     (λ c. search turn-trivia)  -- returns-2
-    (λ c κs. search needs)  -- of-class-requires-2
+    (λ c κs. search needs)  -- is-error-requires
     (λ c. search turn-error)  -- returns-3
     (λ c κs. search needs)  -- other-turn-requires
     (λ c. search turn-other)  -- returns-4

@@ -1,10 +1,10 @@
 use Prim.Native.Nat.{ℕ, _-_}
 use borrow.Author.Needs.{needs}
-use Rattle.printer.proofs.Walking.{survey-outlined, survey-foreign, walks-region, walks-less, Valuing, valuing-none, valuing-more, valuing-all, values-foreign}
+use Rattle.printer.proofs.Walking.{survey-outlined, survey-foreign, walks-region, walks-less, Valuing, valuing-none, valuing-more, valuing-all, values-over, values-foreign}
 use Rattle.printer.proofs.Rowing.{kid-falls}
 use native.Mathlib.Omega.{arith}
 use Rattle.plan.specs.Plans.{held}
-use Rattle.plan.proofs.Laws.{by}
+use Rattle.plan.proofs.Laws.{by, idle}
 use Rattle.printer.proofs.printers.values.Reads as values
 use Rattle.printer.proofs.printers.+args+binds+body+child+comp+each+expr+items+kids+list+local+lone+node+one+part+piece+row+specs+values.Lts-values as lts
 use Rattle.printer.proofs.printers.+args+binds+body+child+comp+each+expr+items+kids+list+local+lone+node+one+part+piece+row+specs+values.Proof.Cycle.{values-at, values-claims}
@@ -18,20 +18,23 @@ abbrev μ-loop : lts.MeasureT-loop
 μ-loop ops₀ cells₀ image index i z w s₀ ops cells s = z .to - s .to
 
 returns : (t : ℕ) → lts.Need-returns (values-claims t) (values-at t) values.Post Inv-loop μ-loop
-returns t c = by (values-foreign _ (survey-foreign _ (c .before .before .before .before .before .kinds-of .ensures) (c .before .before .before .before .survey .ensures) (c .before .before .if1 .taken))) (c .stop-at .ensures _ _)
+returns t c = by (values-over _ _ _ _ _ (c .if1 .taken)) idle
 
 returns-2 : (t : ℕ) → lts.Need-returns-2 (values-claims t) (values-at t) values.Post Inv-loop μ-loop
-returns-2 t c =
+returns-2 t c = by (values-foreign _ (survey-foreign _ (c .before .before .before .before .before .kinds-of .ensures) (c .before .before .before .before .survey .ensures) (c .before .before .if2 .taken))) (c .stop-at .ensures _ _)
+
+returns-3 : (t : ℕ) → lts.Need-returns-3 (values-claims t) (values-at t) values.Post Inv-loop μ-loop
+returns-3 t c =
     let g = c .before .before .before in
     let i1 = g .before in
     let o = i1 .before .before in
     let k = o .before in
-    valuing-all _ (k .kinds-of .ensures) (g .gap .ensures) (survey-outlined _ (k .kinds-of .ensures) (o .survey .ensures) (i1 .if1 .left)) (c .before .before .loop .inv) (c .if2 .left)
+    valuing-all _ (k .kinds-of .ensures) (g .gap .ensures) (survey-outlined _ (k .kinds-of .ensures) (o .survey .ensures) (i1 .if2 .left)) (c .before .before .loop .inv) (c .if3 .left)
 
 node-asked : (t : ℕ) → lts.Need-node-requires (values-claims t) (values-at t) values.Post Inv-loop μ-loop
 node-asked t c κs =
-    let s = c .before .before .before .before .before .before .before .before .before .before .before .before .before in
-    let k = walks-kid (c .before .before .before .before .loop .inv .walks) (c .before .before .if2 .taken) in
+    let s = c .before .before .before .before .before .before .before .before .before .before .before .before .before .before .before in
+    let k = walks-kid (c .before .before .before .before .loop .inv .walks) (c .before .before .if3 .taken) in
     (kid-falls 0 k (omega (arith, s .pre .0)), kid-at k)
 
 holds : (t : ℕ) → lts.Need-loop-holds (values-claims t) (values-at t) values.Post Inv-loop μ-loop
@@ -39,8 +42,8 @@ holds t c =
     let i1 = c .before in
     let o = i1 .before .before in
     let k = o .before in
-    let s = k .before .before .before .before in
-    valuing-none _ (s .pre .1) (k .kinds-of .ensures) (c .gap .ensures) (survey-outlined _ (k .kinds-of .ensures) (o .survey .ensures) (i1 .if1 .left))
+    let s = k .before .before .before .before .before .before in
+    valuing-none _ (s .pre .1) (k .kinds-of .ensures) (c .gap .ensures) (survey-outlined _ (k .kinds-of .ensures) (o .survey .ensures) (i1 .if2 .left))
 
 pub values-closed : {M : Type 1} (t : ℕ) → lts.Closed (values-claims t) (values-at t) values.Post M
 values-closed t =
@@ -50,10 +53,11 @@ values-closed t =
     values.Post
     Inv-loop
     μ-loop
+    (returns t)  -- returns
     (λ c κs. search needs)  -- kinds-of-requires
     (λ c κs. search needs)  -- survey-requires
     (λ c κs. search needs)  -- stop-at-requires
-    (returns t)  -- returns
+    (returns-2 t)  -- returns-2
     (λ c κs. search needs)  -- gap-requires
     (holds t)  -- loop-holds
     (node-asked t)  -- node-requires
@@ -61,5 +65,5 @@ values-closed t =
     (λ c κs. search walks-region)  -- gap-requires-2
     (λ c. search walks-less)  -- loop-less
     (λ c. search valuing-more)  -- loop-again
-    (λ c. returns-2 t c .sameOps)  -- same-length
-    (returns-2 t)  -- returns-2
+    (λ c. returns-3 t c .sameOps)  -- same-length
+    (returns-3 t)  -- returns-3

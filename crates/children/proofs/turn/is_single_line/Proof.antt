@@ -1,0 +1,13 @@
+use native.Mathlib.Omega.{arith}
+use Rattle.tree.specs.Class.{kinds}
+use Rattle.children.proofs.Turns.{range-is}
+use Rattle.children.proofs.turn.is_single_line.Statement.{statement}
+use Rattle.children.proofs.turn.is_single_line.Tie as tie
+
+pub is-single-line-spec : {M : Type 1} → statement M
+unfolding kinds
+is-single-line-spec =
+    tie.close
+    (tie.spec
+    (λ c. range-is _ _ _ (omega arith))  -- returns
+    )
