@@ -3,7 +3,7 @@
 
 The list is `rows` in specs/Layout.antt: for each kind of node with a fixed layout, the pieces that it prints. From it follow the
 numbers of wanted parts and pieces (specs/Rows.antt), the code's tables over them (src/rows.rt) with a line of proof for each entry
-(proofs/rows), and the numbers of texts, which the writer of a plan knows (crate `plan`: specs/Words.antt, src/words.rt, src/write.rt). A
+(proofs/rows), and the numbers of texts, which the writer of a plan knows (crate `plan`: specs/Words.antt, src/words.rt). A
 text that the code prints by itself has a constant in src/words.rt, and stands in FIXED below at the constant's number.
 
     crates/printer/tables.py            writes these files
@@ -17,7 +17,7 @@ from pathlib import Path
 
 HERE = Path(__file__).resolve().parent
 LAYOUT, ROWS, CODE = (HERE / path for path in ("specs/Layout.antt", "specs/Rows.antt", "src/rows.rt"))
-TEXTS, WORDS, WRITER, STARTS = (HERE.parent / "plan" / path for path in ("specs/Words.antt", "src/words.rt", "src/write.rt", "proofs/words/start_of/Proof.antt"))
+TEXTS, WORDS, STARTS = (HERE.parent / "plan" / path for path in ("specs/Words.antt", "src/words.rt", "proofs/words/start_of/Proof.antt"))
 CLASS, KIND = (HERE.parent / path for path in ("tree/src/class.rt", "numbers/src/kind.rt"))
 
 # The texts of the constants of src/words.rt; number 0 is no text.
@@ -230,17 +230,16 @@ def arms_proof(entries, law, last):
 
 
 def words_code(tables, text):
+    joined = "".join(tables.words)
     text = replaced(text, r"const WORDS: u32 = (\d+);", str(len(tables.words)))
+    text = replaced(text, r"const ALL: \[u8; (\d+)\]", str(len(joined)))
+    text = replaced(text, r'const ALL: \[u8; \d+\] =\s*\*b"(.*?)";', joined)
     return with_arms(text, "start_of", word_starts(tables))
-
-
-def writer_code(tables, text):
-    return replaced(text, r'let all: &\[u8\] =\s*b"(.*?)";', "".join(tables.words))
 
 
 def main():
     tables, check, status = Tables(LAYOUT.read_text()), "--check" in sys.argv, 0
-    files = [(ROWS, rows_definition), (CODE, rows_code), (TEXTS, words_definition), (WORDS, words_code), (WRITER, writer_code)]
+    files = [(ROWS, rows_definition), (CODE, rows_code), (TEXTS, words_definition), (WORDS, words_code)]
     files += [(STARTS, arms_proof(word_starts, "starts {} refl {}", "no-arm {} (at-most (c .before .pre)) (c .match .rest)"))]
     files += [(HERE / f"proofs/rows/{name}/Proof.antt", arms_proof(entries, law, last)) for name, entries, law, last in TABLES]
     for path, made in files:

@@ -33,6 +33,8 @@ use Rattle.listing.proofs.Listable.{items-are, listable}
 use Rattle.printer.specs.Print.{sourceFile}
 use Rattle.formatter.specs.declared.Totals.{Totals}
 use Rattle.formatter.specs.declared.serve.Plan.{Plan}
+use Rattle.formatter.specs.declared.serve.Attempt.{Attempt}
+use Rattle.formatter.specs.declared.serve.Attempt.the-variants.{Answered as Replied, Full}
 use Rattle.formatter.specs.declared.serve.Room.{Room}
 use Rattle.formatter.specs.declared.serve.Room.the-variants.{Enough, Short}
 use Rattle.formatter.specs.Answer.{Verdict, turnedAway, printed, fromPrinting, fromTests, verdict, withRoom, withListing, ruling, Answer, refused, done, totalsOf, answerOf, answer, bufferOf, recordsAfter, textsAfter, listingAfter}
@@ -40,7 +42,7 @@ use Rattle.formatter.specs.Answered.{Answered}
 use Rattle.formatter.specs.declared.ListAnswer.{ListAnswer}
 use Rattle.formatter.specs.declared.ListAnswer.the-variants.{Listed, Refused as Unlisted}
 use Rattle.formatter.specs.Reply.{replyListed, replyTo}
-use Rattle.formatter.specs.Calls.{asked, Served, mostRecords, Sized, Ready, plannedAt, Whole, Halts, countsWith, totals, ample, shortage}
+use Rattle.formatter.specs.Calls.{asked, Served, Attempted, mostRecords, Sized, Ready, plannedAt, Whole, Halts, countsWith, totals, ample, shortage}
 use Rattle.formatter.proofs.Counted.{records-bound, texts-bound}
 use Rattle.formatter.proofs.Fitted.{items-fit}
 use Rattle.formatter.proofs.Agree.{agree}
@@ -161,21 +163,46 @@ unlisted c d m n w r size (e, f) = rw (e, f) refl
 pub most-small : (image : List ℕ) → refusal image ≡ none → mostRecords image ≤ 226304
 most-small image p = let a = accepted image p in omega (arith, a .few-elements, a .few-bytes)
 
-pub sized-by : {image : List ℕ} {m n : ℕ} → refusal image ≡ none → m ≡ mostRecords image → m < n → Sized image n
-sized-by p e h = record { passed = p; few = omega (arith, h, e) }
+-- an array of the right size
+pub sized-by : {image : List ℕ} {m size : ℕ} → refusal image ≡ none → m ≡ countN image → 6 * m ≤ size → {n : ℕ} → size ≡ n → Sized image n
+sized-by p e h i = record { passed = p; few = omega (arith, h, e, i) }
 
 -- the largest serve every image
 pub sized-most : {image : List ℕ} → refusal image ≡ none → Sized image 226305
-sized-most {image} p = record { passed = p; few = omega (arith, most-small image p) }
+sized-most {image} p = record { passed = p; few = omega (arith, accepted image p .few-elements) }
 
 -- buffers that are ample
 pub ample-by : (image : List ℕ) {m : ℕ} (w r : ℕ) → m ≡ mostRecords image → (leb (recordSize * m) w && leb (39 * m) r) ≡ ample image w r
 unfolding ample
 ample-by image w r e = rw e refl
 
--- an eighth of the operations, and three more, are room for the index
-pub sized-ready : {image table ops : List ℕ} {n : ℕ} → Sized image n → n ≤ length ops → n / 8 + 3 ≤ length table → Ready image table ops
-sized-ready s h k = record { passed = s .passed; tabled = omega (arith, s .few, k); planned = omega (arith, s .few, h) }
+-- half of the operations, and three more, are room for the index
+pub sized-ready : {image table : List ℕ} {n : ℕ} → Sized image n → n / 2 + 3 ≤ length table → Ready image table
+sized-ready s k = record { passed = s .passed; tabled = omega (arith, s .few, k) }
+
+-- ---- attempts
+
+module _ {image rs ts ls rs′ ts′ ls′ : List ℕ} {listed : Bool} where
+  -- an answer
+  pub answered-by : {room : Type 0} {r : ListAnswer} → Served image rs ts ls listed rs′ ts′ ls′ (replyTo listed r) → Attempted room image rs ts ls listed rs′ ts′ ls′ (Replied r)
+  answered-by {r = r} h = record {
+    answers = λ s e. let i : r ≡ s = cc in rw (← i) h;
+    fills = λ e. absurd (let z : _≡_ {A = ℕ} 0 1 = cc in omega arith);
+  }
+
+  -- the same with room that implies the other's
+  pub attempted-as : {a b : Type 0} {r : Attempt} → (b → a) → Attempted a image rs ts ls listed rs′ ts′ ls′ r → Attempted b image rs ts ls listed rs′ ts′ ls′ r
+  attempted-as f h = record { answers = h .answers; fills = λ e. let (n, k) = h .fills e in (λ x. n (f x), k) }
+
+module _ {image rs ts ls : List ℕ} {listed : Bool} where
+  -- the buffers as they are
+  pub filled-by : {room : Type 0} → (room → ⊥) → Attempted room image rs ts ls listed rs ts ls Full
+  filled-by f = record { answers = λ r e. absurd (let z : _≡_ {A = ℕ} 0 1 = cc in omega arith); fills = λ e. (f, (refl, (refl, refl))) }
+
+  -- a second attempt where the first was full
+  pub after-full : {room : Type 0} {rs′ ts′ ls′ rs″ ts″ ls″ : List ℕ} {a : Attempt} → Attempted room image rs ts ls listed rs′ ts′ ls′ a → a ≡ Full
+      → {r : Answer} → Served image rs′ ts′ ls′ listed rs″ ts″ ls″ r → Served image rs ts ls listed rs″ ts″ ls″ r
+  after-full h e k = let (_, (i, (j, l))) = h .fills e in rw (i, j, l) at k
 
 -- ---- a plan
 

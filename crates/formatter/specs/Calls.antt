@@ -24,7 +24,9 @@ use Rattle.formatter.specs.declared.serve.Plan.{Plan}
 use Rattle.formatter.specs.declared.serve.Room.{Room}
 use Rattle.formatter.specs.declared.serve.Room.the-variants.{Enough, Short}
 use Rattle.formatter.specs.declared.serve.Outlook.{Outlook}
-use Rattle.formatter.specs.declared.serve.Outlook.the-variants.{Stops, Prints}
+use Rattle.formatter.specs.declared.serve.Outlook.the-variants.{Stops, Prints, Full as Filled}
+use Rattle.formatter.specs.declared.serve.Attempt.{Attempt}
+use Rattle.formatter.specs.declared.serve.Attempt.the-variants.{Answered as Replied, Full}
 use Rattle.formatter.specs.Answer.{Answer, done, answer, recordsAfter, textsAfter, listingAfter}
 use Rattle.formatter.specs.Answered.{Answered}
 use Rattle.formatter.specs.Reply.{replyTo}
@@ -79,16 +81,15 @@ ServedIn image records texts listing listed r =
 abbrev pub mostRecords : List ℕ → ℕ
 mostRecords image = 24 * countN image + 4 * countB image
 
--- An image that passed the tests 1 to 9 and has fewer records than n at most.
+-- An image that passed the tests 1 to 9, and an array of n operations with six or more for each element.
 pub record Sized (image : List ℕ) (n : ℕ) : Type 0 where
   pub passed : refusal image ≡ none
-  pub few : mostRecords image < n
+  pub few : 6 * countN image ≤ n
 
--- A table has room for the index of an image that passed, and an array for its plan.
-pub record Ready (image table ops : List ℕ) : Type 0 where
+-- A table has room for the index of an image that passed.
+pub record Ready (image table : List ℕ) : Type 0 where
   pub passed : refusal image ≡ none
   pub tabled : indexSize image ≤ length table
-  pub planned : mostRecords image < length ops
 
 -- the items of a plan
 abbrev pub plannedAt : List ℕ → List ℕ → List ℕ → Plan → List Item
@@ -111,6 +112,23 @@ pub record Halts (image : List ℕ) (e : ℕ) : Type 0 where
 pub record Foresees (image index ops : List ℕ) (o : Outlook) : Type 0 where
   pub stops : (e : Element) → o ≡ Stops e → Halts image (e .0)
   pub prints : (q : Plan) → o ≡ Prints q → Whole image index ops q
+  pub fills : o ≡ Filled → mostRecords image < length ops → ⊥
+
+-- What an attempt comes to: an answer and the buffers that come back are those of the definition; or there was no room, and the buffers
+-- come back as they were.
+pub record Attempted (room : Type 0) (image rs ts ls : List ℕ) (listed : Bool) (rs′ ts′ ls′ : List ℕ) (a : Attempt) : Type 0 where
+  pub answers : (r : ListAnswer) → a ≡ Replied r → Served image rs ts ls listed rs′ ts′ ls′ (replyTo listed r)
+  pub fills : a ≡ Full → (room → ⊥) × ((rs′ ≡ rs) × ((ts′ ≡ ts) × (ls′ ≡ ls)))
+
+-- the same of what is lent, in an array of n operations: there is room where it has more than the image prints at most
+abbrev pub AttemptedIn : ℕ → Lent → Lent → Lent → Lent → Bool → Attempt → Type 0
+AttemptedIn n image records texts listing listed a =
+    Attempted (mostRecords (image .entry .now) < n) (image .entry .now) (records .entry .now) (texts .entry .now) (listing .entry .now) listed (records .exit .now) (texts .exit .now) (listing .exit .now) a
+
+-- the same in arrays of a size or larger ones: in the largest there is room
+abbrev pub TriedIn : ℕ → Lent → Lent → Lent → Lent → Bool → Attempt → Type 0
+TriedIn size image records texts listing listed a =
+    Attempted (226305 ≤ size) (image .entry .now) (records .entry .now) (texts .entry .now) (listing .entry .now) listed (records .exit .now) (texts .exit .now) (listing .exit .now) a
 
 -- the counts of items by their size and their runs, with two marks for each
 abbrev pub countsWith : Size → ℕ → Counts

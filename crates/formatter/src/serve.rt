@@ -11,6 +11,7 @@ use numbers::refusal::Reason;
 use numbers::refusal::Refusal;
 use numbers::refusal::whole;
 use plan::is_going;
+use plan::is_stopped;
 use plan::next_run;
 use plan::operations;
 use plan::stopped_at;
@@ -24,20 +25,28 @@ use tree::element_count;
 ghost use mathlib.Core.Path.{_≡_};
 ghost use mathlib.Core.Option.{none};
 ghost use Prim.Native.Nat.{_*_, _<_, _≤_, _^_};
+ghost use lib.ListN.{length};
 ghost use Rattle.tree.specs.Refusal.{refusal};
-ghost use Rattle.formatter.specs.Calls.{ServedIn, mostRecords, Sized, Ready, Foresees, Whole, countsWith, totals, ample, shortage};
+ghost use Rattle.formatter.specs.Calls.{ServedIn, AttemptedIn, TriedIn, mostRecords, Sized, Ready, Foresees, Whole, countsWith, totals, ample, shortage};
 
-// How many operations an array holds, eight times as many in each size. The sum of 24 for each element and 4 for each byte picks
-// one: a small image pays for no clearing of a large one.
-const SMALL: usize = 1_024;
+// How many operations an array holds, four times as many in each size but the largest, which has room for every image. An array is
+// tried first that holds some for each element, which most images do not need; where it is full, the largest.
+const SMALLEST: usize = 384;
 
-const MIDDLE: usize = 8_192;
+const SMALL: usize = 1_536;
 
-const LARGE: usize = 65_536;
+const MIDDLE: usize = 6_144;
+
+const LARGE: usize = 24_576;
 
 const LARGEST: usize = 226_305;
 
-const NEXT_SIZE: usize = 8;
+const NEXT_SIZE: usize = 4;
+
+const LIKELY: usize = 6;
+
+// An index has three numbers for each element, half of the operations.
+const INDEX_PART: usize = LIKELY / ENTRY;
 
 // Records for each element and each byte of text, at most.
 const EACH_ELEMENT: usize = 24;
@@ -47,19 +56,23 @@ const EACH_BYTE: usize = 4;
 // Bytes of text for each record, at most.
 const EACH_RECORD: usize = 39;
 
-// An index has three numbers for each element, an eighth of the records.
-const ELEMENT_ROOM: usize = EACH_ELEMENT / ENTRY;
-
 // How many operations a plan has, and how many runs they begin.
 struct Plan {
     operations: usize,
     runs: u32,
 }
 
-// What planning comes to: the element at which the Rust stops, or a plan.
+// What planning comes to: the element at which the Rust stops, a plan, or a full array.
 enum Outlook {
     Stops(Element),
     Prints(Plan),
+    Full,
+}
+
+// What an array of operations comes to: an answer, or it is full.
+enum Attempt {
+    Answered(ListAnswer),
+    Full,
 }
 
 // Whether buffers have room, or which is too short.
@@ -84,8 +97,30 @@ pub fn serve(
         Tested::Accepted {
             elements: _,
             bytes: _,
-        } => serve_sized(image, records, texts, listing, listed, SMALL),
+        } => serve_passed(image, records, texts, listing, listed),
     }
+}
+
+// The same of an image that passed the tests 1 to 9.
+fn serve_passed(
+    image: &[u8],
+    records: &mut [u32],
+    texts: &mut [u8],
+    listing: &mut [u8],
+    listed: bool,
+) -> ListAnswer
+    requires { ⌜ refusal (now image) ≡ none ⌝ }
+    ensures { λ r. ⌜ ServedIn image records texts listing listed r ⌝ }
+{
+    let a = attempt_sized(image, records, texts, listing, listed, SMALLEST);
+    if let Attempt::Answered(r) = a {
+        return r;
+    }
+    let b = attempt_sized(image, records, texts, listing, listed, LARGEST);
+    let Attempt::Answered(r) = b else {
+        return ListAnswer::Refused(whole(Reason::RecordsTooShort));
+    };
+    r
 }
 
 // How many records an image prints at most.
@@ -97,92 +132,109 @@ fn most_records(image: &[u8]) -> usize
     EACH_ELEMENT * elements + EACH_BYTE * bytes
 }
 
-// The same of an image that passed the tests 1 to 9, in arrays of a size, or of the next one where they may have too little room. A
-// function that calls itself stays a function of its own, and so does each that it calls with an array: a small image needs
+// The answer to an image that passed the tests 1 to 9, in arrays of a size, or of the next one where they hold too little for each element.
+// A function that calls itself stays a function of its own, and so does each that it calls with an array: a small image needs
 // no stack for a large one.
-fn serve_sized(
+fn attempt_sized(
     image: &[u8],
     records: &mut [u32],
     texts: &mut [u8],
     listing: &mut [u8],
     listed: bool,
     size: usize,
-) -> ListAnswer
+) -> Attempt
     requires { ⌜ refusal (now image) ≡ none ⌝ }
     requires { ⌜ 1 ≤ size ⌝ }
-    ensures { λ r. ⌜ ServedIn image records texts listing listed r ⌝ }
+    ensures { λ r. ⌜ TriedIn size image records texts listing listed r ⌝ }
 {
-    if size <= most_records(image) {
-        return serve_sized(image, records, texts, listing, listed, NEXT_SIZE * size);
+    if size < LIKELY * (element_count(image) as usize) {
+        return attempt_sized(image, records, texts, listing, listed, NEXT_SIZE * size);
     }
     match size {
-        SMALL => serve_small(image, records, texts, listing, listed),
-        MIDDLE => serve_middle(image, records, texts, listing, listed),
-        LARGE => serve_large(image, records, texts, listing, listed),
-        _ => serve_largest(image, records, texts, listing, listed),
+        SMALLEST => attempt_smallest(image, records, texts, listing, listed),
+        SMALL => attempt_small(image, records, texts, listing, listed),
+        MIDDLE => attempt_middle(image, records, texts, listing, listed),
+        LARGE => attempt_large(image, records, texts, listing, listed),
+        _ => attempt_largest(image, records, texts, listing, listed),
     }
 }
 
 // The same in the smallest arrays.
-fn serve_small(
+fn attempt_smallest(
     image: &[u8],
     records: &mut [u32],
     texts: &mut [u8],
     listing: &mut [u8],
     listed: bool,
-) -> ListAnswer
-    requires { ⌜ Sized (now image) 1024 ⌝ }
-    ensures { λ r. ⌜ ServedIn image records texts listing listed r ⌝ }
+) -> Attempt
+    requires { ⌜ Sized (now image) 384 ⌝ }
+    ensures { λ r. ⌜ AttemptedIn 384 image records texts listing listed r ⌝ }
 {
-    let mut table = [0u32; SMALL / ELEMENT_ROOM + ENTRY];
+    let mut table = [0u32; SMALLEST / INDEX_PART + ENTRY];
+    let mut ops = [0u32; SMALLEST];
+    serve_in(image, &mut table, &mut ops, records, texts, listing, listed)
+}
+
+// The same in small ones.
+fn attempt_small(
+    image: &[u8],
+    records: &mut [u32],
+    texts: &mut [u8],
+    listing: &mut [u8],
+    listed: bool,
+) -> Attempt
+    requires { ⌜ Sized (now image) 1536 ⌝ }
+    ensures { λ r. ⌜ AttemptedIn 1536 image records texts listing listed r ⌝ }
+{
+    let mut table = [0u32; SMALL / INDEX_PART + ENTRY];
     let mut ops = [0u32; SMALL];
     serve_in(image, &mut table, &mut ops, records, texts, listing, listed)
 }
 
 // The same in larger ones.
-fn serve_middle(
+fn attempt_middle(
     image: &[u8],
     records: &mut [u32],
     texts: &mut [u8],
     listing: &mut [u8],
     listed: bool,
-) -> ListAnswer
-    requires { ⌜ Sized (now image) 8192 ⌝ }
-    ensures { λ r. ⌜ ServedIn image records texts listing listed r ⌝ }
+) -> Attempt
+    requires { ⌜ Sized (now image) 6144 ⌝ }
+    ensures { λ r. ⌜ AttemptedIn 6144 image records texts listing listed r ⌝ }
 {
-    let mut table = [0u32; MIDDLE / ELEMENT_ROOM + ENTRY];
+    let mut table = [0u32; MIDDLE / INDEX_PART + ENTRY];
     let mut ops = [0u32; MIDDLE];
     serve_in(image, &mut table, &mut ops, records, texts, listing, listed)
 }
 
 // The same in still larger ones.
-fn serve_large(
+fn attempt_large(
     image: &[u8],
     records: &mut [u32],
     texts: &mut [u8],
     listing: &mut [u8],
     listed: bool,
-) -> ListAnswer
-    requires { ⌜ Sized (now image) 65536 ⌝ }
-    ensures { λ r. ⌜ ServedIn image records texts listing listed r ⌝ }
+) -> Attempt
+    requires { ⌜ Sized (now image) 24576 ⌝ }
+    ensures { λ r. ⌜ AttemptedIn 24576 image records texts listing listed r ⌝ }
 {
-    let mut table = [0u32; LARGE / ELEMENT_ROOM + ENTRY];
+    let mut table = [0u32; LARGE / INDEX_PART + ENTRY];
     let mut ops = [0u32; LARGE];
     serve_in(image, &mut table, &mut ops, records, texts, listing, listed)
 }
 
-// The same in arrays for the largest image.
-fn serve_largest(
+// The same in arrays for every image.
+fn attempt_largest(
     image: &[u8],
     records: &mut [u32],
     texts: &mut [u8],
     listing: &mut [u8],
     listed: bool,
-) -> ListAnswer
+) -> Attempt
     requires { ⌜ Sized (now image) 226305 ⌝ }
-    ensures { λ r. ⌜ ServedIn image records texts listing listed r ⌝ }
+    ensures { λ r. ⌜ AttemptedIn 226305 image records texts listing listed r ⌝ }
 {
-    let mut table = [0u32; LARGEST / ELEMENT_ROOM + ENTRY];
+    let mut table = [0u32; LARGEST / INDEX_PART + ENTRY];
     let mut ops = [0u32; LARGEST];
     serve_in(image, &mut table, &mut ops, records, texts, listing, listed)
 }
@@ -196,37 +248,49 @@ fn serve_in(
     texts: &mut [u8],
     listing: &mut [u8],
     listed: bool,
-) -> ListAnswer
-    requires { ⌜ Ready (now image) (now table) (now ops) ⌝ }
-    ensures { λ r. ⌜ ServedIn image records texts listing listed r ⌝ }
+) -> Attempt
+    requires { ⌜ Ready (now image) (now table) ⌝ }
+    ensures { λ r. ⌜ AttemptedIn (length (now (ops .entry))) image records texts listing listed r ⌝ }
 {
     let outlook = plan_image(image, table, ops);
     match outlook {
-        Outlook::Stops(e) => ListAnswer::Refused(Refusal {
+        Outlook::Stops(e) => Attempt::Answered(ListAnswer::Refused(Refusal {
             reason: Reason::Stopped,
             element: e,
-        }),
-        Outlook::Prints(plan) => {
-            serve_planned(image, table, ops, plan, records, texts, listing, listed)
-        }
+        })),
+        Outlook::Prints(plan) => Attempt::Answered(serve_planned(
+            image,
+            table,
+            ops,
+            plan,
+            records,
+            texts,
+            listing,
+            listed,
+        )),
+        Outlook::Full => Attempt::Full,
     }
 }
 
 // Writes the index of an image and the plan of its printing.
 fn plan_image(image: &[u8], table: &mut [u32], ops: &mut [u32]) -> Outlook
-    requires { ⌜ Ready (now image) (now table) (now ops) ⌝ }
+    requires { ⌜ Ready (now image) (now table) ⌝ }
     ensures { λ r. ⌜ Foresees (now (image .entry)) (now (table .exit)) (now (ops .exit)) r ⌝ }
 {
     tree::index::index(image, table);
     let mut cells = [0u32; 8];
     plan_source(ops, &mut cells, image, table);
-    if is_going(&cells) {
-        return Outlook::Prints(Plan {
-            operations: operations(&cells),
-            runs: next_run(&cells).0,
-        });
+    if is_stopped(cells) {
+        return Outlook::Stops(stopped_at(&cells));
     }
-    Outlook::Stops(stopped_at(&cells))
+    let n = operations(&cells);
+    if !is_going(&cells) | (ops.len() < n) {
+        return Outlook::Full;
+    }
+    Outlook::Prints(Plan {
+        operations: n,
+        runs: next_run(&cells).0,
+    })
 }
 
 // The counts of a plan's items, by their size and the runs: each run's list has two marks.

@@ -7,7 +7,7 @@ use Prim.Native.Nat.{ℕ, _-_, _^_, _<_, _≤_, min}
 use native.Mathlib.Omega.{arith}
 use lib.Dec.{eqb}
 use lib.ListN.{length, getD}
-use borrow.Author.Tests.{eqb-true, eq-eqb}
+use borrow.Author.Tests.{eq-eqb, ne-eqb}
 use Rattle.text.specs.Basic.{sum}
 use Rattle.items.specs.Item.{Item, Out, stop, ok, Print}
 use Rattle.items.proofs.Fits.{itemsOf}
@@ -28,17 +28,30 @@ number (halted xs e) = e
 number full = 0
 number (planned xs k) = k
 
-joined-tag : (o : Out) → tag (joined [] o) ≡ 2 → ⊥
+joined-tag : (o : Out) → full ≡ joined [] o → ⊥
 unfolding joined
-joined-tag (stop xs e) h = omega arith
-joined-tag (ok xs k) h = omega arith
+joined-tag (stop xs e) h = let z : _≡_ {A = ℕ} 2 1 = ap tag h in omega arith
+joined-tag (ok xs k) h = let z : _≡_ {A = ℕ} 2 0 = ap tag h in omega arith
 
 joined-items : (o : Out) → itemsIn (joined [] o) ≡ itemsOf o
 unfolding joined
 joined-items (stop xs e) = refl
 joined-items (ok xs k) = refl
 
-module _ (s : Source) (q : Print) (ops : List ℕ) (a : Held) (h : Plans s q (held ops noCells) a) (room : load (itemsOf (q 0)) < min (length ops) (2 ^ 32 - 1)) where
+joined-planned : (o : Out) (xs : List Item) (k : ℕ) → planned xs k ≡ joined [] o → o ≡ ok xs k
+unfolding joined
+joined-planned (stop ys e) xs k h = let z : _≡_ {A = ℕ} 0 1 = ap tag h in absurd (omega arith)
+joined-planned (ok ys n) xs k h = let i : xs ≡ ys = ap itemsIn h in let j : k ≡ n = ap number h in rw (i, j) refl
+
+joined-halted : (o : Out) (xs : List Item) (e : ℕ) → halted xs e ≡ joined [] o → o ≡ stop xs e
+unfolding joined
+joined-halted (stop ys n) xs e h = let i : xs ≡ ys = ap itemsIn h in let j : e ≡ n = ap number h in rw (i, j) refl
+joined-halted (ok ys k) xs e h = let z : _≡_ {A = ℕ} 1 0 = ap tag h in absurd (omega arith)
+
+module _ (s : Source) (q : Print) (ops : List ℕ) (a : Held) (h : Plans s q (held ops noCells) a) (eight : length (a .cells) ≡ 8) where
+  abbrev xs : List Item
+  xs = decoded s (a .ops) (count a)
+
   start : planning q (seen s (held ops noCells)) ≡ joined [] (q 0)
   unfolding seen planning decoded
   start = refl
@@ -47,49 +60,46 @@ module _ (s : Source) (q : Print) (ops : List ℕ) (a : Held) (h : Plans s q (he
   unfolding seen decoded sum
   kept = h .tidy (record { is = (refl, omega arith) })
 
-  over : (Kept s (held ops noCells) → min (length ops) (2 ^ 32 - 1) ≤ load (itemsIn (planning q (seen s (held ops noCells))))) → ⊥
-  unfolding seen decoded sum
-  over f = omega (arith, room, rw (start, joined-items (q 0)) at (f (record { is = (refl, omega arith) })))
+  -- the plan is the printing's, unless there was no room
+  whole : (x : Planned) → seen s a ≡ x → (tag x ≡ 2 → ⊥) → x ≡ joined [] (q 0)
+  whole x e f = ⊎-elim (λ i. sym e ∙ i ∙ start) (λ i. absurd (f (ap tag (sym e ∙ i .0)))) (h .ran .got)
 
-  -- the plan is the printing's, with no way out
-  pub whole : seen s a ≡ joined [] (q 0)
-  whole = ⊎-elim (λ e. e ∙ start) (λ e. absurd (over (e .1))) (h .ran .got)
+  seen-stopped : status a ≡ 1 → seen s a ≡ halted xs (stoppedAt a)
+  unfolding seen
+  seen-stopped g = rw (eq-eqb (length (a .cells)) 8 eight, g) refl
 
-  -- a plan that does not go on stopped
-  pub stopped-there : (status a ≡ 0 → ⊥) → (xs : List Item) × (q 0 ≡ stop xs (stoppedAt a))
-  unfolding seen joined
-  stopped-there g = go (eqb (length (a .cells)) 8) (eqb (status a) 0) refl (eqb (status a) 1) (q 0) whole
-    where
-      go : (l b : Bool) → eqb (status a) 0 ≡ b → (c : Bool) (o : Out) → told l b c (planned (decoded s (a .ops) (count a)) (nextRun a)) (halted (decoded s (a .ops) (count a)) (stoppedAt a)) ≡ joined [] o
-          → (xs : List Item) × (o ≡ stop xs (stoppedAt a))
-      go true true f c o d = absurd (g (eqb-true (status a) 0 f))
-      go true false f true (stop xs e) d = let n : stoppedAt a ≡ e = ap number d in (xs, rw n refl)
-      go true false f true (ok xs k) d = let z : _≡_ {A = ℕ} 1 0 = ap tag d in absurd (omega arith)
-      go true false f false o d = absurd (joined-tag o (sym (ap tag d)))
-      go false b f c o d = absurd (joined-tag o (sym (ap tag d)))
+  -- a plan that stopped did so where the printing does
+  pub stopped-there : status a ≡ 1 → q 0 ≡ stop xs (stoppedAt a)
+  stopped-there g = joined-halted (q 0) xs (stoppedAt a) (whole (halted xs (stoppedAt a)) (seen-stopped g) (λ z. omega arith))
 
-  -- a plan that goes on holds all of the printing's items, in no more operations than the array has
-  pub planned-all : status a ≡ 0 → (q 0 ≡ ok (decoded s (a .ops) (count a)) (nextRun a)) × ((nextRun a ≡ runsOf (decoded s (a .ops) (count a))) × (count a ≤ length (decoded s (a .ops) (count a))))
-  unfolding seen joined
-  planned-all g = go (eqb (length (a .cells)) 8) (q 0) whole (kept .is)
-    where
-      go : (l : Bool) (o : Out) → told l (eqb (status a) 0) (eqb (status a) 1) (planned (decoded s (a .ops) (count a)) (nextRun a)) (halted (decoded s (a .ops) (count a)) (stoppedAt a)) ≡ joined [] o
-          → Tidy (count a) (told l (eqb (status a) 0) (eqb (status a) 1) (planned (decoded s (a .ops) (count a)) (nextRun a)) (halted (decoded s (a .ops) (count a)) (stoppedAt a)))
-          → (o ≡ ok (decoded s (a .ops) (count a)) (nextRun a)) × ((nextRun a ≡ runsOf (decoded s (a .ops) (count a))) × (count a ≤ length (decoded s (a .ops) (count a))))
-      go true (ok xs k) e t =
-          let d : planned (decoded s (a .ops) (count a)) (nextRun a) ≡ planned xs k = rw g at e in
-          let x : decoded s (a .ops) (count a) ≡ xs = ap itemsIn d in
-          let n : nextRun a ≡ k = ap number d in
-          (rw (x, n) refl, rw g at t)
-      go true (stop xs k) e t =
-          let d : planned (decoded s (a .ops) (count a)) (nextRun a) ≡ halted xs k = rw g at e in
-          let z : _≡_ {A = ℕ} 0 1 = ap tag d in absurd (omega arith)
-      go false o e t = absurd (joined-tag o (sym (ap tag e)))
+  seen-going : status a ≡ 0 → seen s a ≡ planned xs (nextRun a)
+  unfolding seen
+  seen-going g = rw (eq-eqb (length (a .cells)) 8 eight, g) refl
 
-  -- all operations lie in the array
-  pub in-array : status a ≡ 0 → count a ≤ length ops
-  in-array g =
-      let (e, (f, l)) = planned-all g in
-      let xs = decoded s (a .ops) (count a) in
-      let i : itemsOf (q 0) ≡ xs = ap itemsOf e in
-      omega (arith, length-load xs, rw i at room)
+  -- a plan that goes on holds all of the printing's items, and has counted its runs
+  pub planned-all : status a ≡ 0 → q 0 ≡ ok xs (nextRun a)
+  planned-all g = joined-planned (q 0) xs (nextRun a) (whole (planned xs (nextRun a)) (seen-going g) (λ z. omega arith))
+
+  tidied : status a ≡ 0 → (nextRun a ≡ runsOf xs) × (count a ≤ length xs)
+  tidied g = rw (seen-going g) at (kept .is)
+
+  pub runs-counted : status a ≡ 0 → nextRun a ≡ runsOf xs
+  runs-counted g = tidied g .0
+
+  -- in an array with room
+  module _ (room : load (itemsOf (q 0)) < min (length ops) (2 ^ 32 - 1)) where
+    over : (Kept s (held ops noCells) → min (length ops) (2 ^ 32 - 1) ≤ load (itemsIn (planning q (seen s (held ops noCells))))) → ⊥
+    unfolding seen decoded sum
+    over f = omega (arith, room, rw (start, joined-items (q 0)) at (f (record { is = (refl, omega arith) })))
+
+    seen-full : (status a ≡ 0 → ⊥) → (status a ≡ 1 → ⊥) → seen s a ≡ full
+    unfolding seen
+    seen-full e f = rw (eq-eqb (length (a .cells)) 8 eight, ne-eqb (status a) 0 e, ne-eqb (status a) 1 f) refl
+
+    -- planning goes on or stopped
+    pub never-full : (status a ≡ 0 → ⊥) → (status a ≡ 1 → ⊥) → ⊥
+    never-full e f = ⊎-elim (λ i. joined-tag (q 0) (sym (seen-full e f) ∙ i ∙ start)) (λ i. over (i .1)) (h .ran .got)
+
+    -- all operations lie in the array
+    pub in-array : status a ≡ 0 → count a ≤ length ops
+    in-array g = let i : itemsOf (q 0) ≡ xs = ap itemsOf (planned-all g) in omega (arith, tidied g .1, length-load xs, rw i at room)

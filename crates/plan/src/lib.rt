@@ -18,7 +18,7 @@ ghost use mathlib.Core.Path.{_≡_};
 ghost use mathlib.Core.List.{List};
 ghost use Prim.Native.Nat.{ℕ, _<_};
 ghost use lib.Dec.{eqb};
-ghost use lib.ListN.{getD};
+ghost use lib.ListN.{length, getD};
 ghost use Rattle.items.specs.Item.{say, says, lit, openRun, stopped, text, signal, conditionTest, mark, runEnd, again, ifTest};
 ghost use Rattle.comments.specs.Place.{place};
 ghost use Rattle.plan.specs.Words.{wordAt, wordOrNone, wordCount};
@@ -229,6 +229,14 @@ pub fn is_going(cells: &[u32; 8]) -> bool
     ensures { λ r. ⌜ r ≡ eqb (getD (now (cells .entry)) 0 0) 0 ⌝ }
 {
     cells[STATUS] == GOING
+}
+
+// Whether planning stopped. The cells are copied: of a copy it is known that there are eight.
+pub fn is_stopped(cells: [u32; 8]) -> bool
+    ensures { λ r. ⌜ r ≡ eqb (getD cells 0 0) 1 ⌝ }
+    ensures { λ _. ⌜ length cells ≡ 8 ⌝ }
+{
+    cells[STATUS] == STOPPED
 }
 
 // How many operations were added.
