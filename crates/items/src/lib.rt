@@ -414,24 +414,11 @@ pub fn no_size() -> Size
     }
 }
 
-// No counts yet.
-fn no_counts() -> Count
-    ensures { λ r. ⌜ r ≡ noCounts ⌝ }
-{
-    Count {
-        records: 0,
-        texts: 0,
-        runs: 0,
-        marks: 0,
-        lines: 0,
-    }
-}
-
 // Nothing is printed yet.
 pub fn start() -> Printed
     ensures { λ r. ⌜ r ≡ Done noCounts ⌝ }
 {
-    Printed::Done(no_counts())
+    Printed::Done(counts_at(no_size()))
 }
 
 // Prints a text, also one of no bytes.
