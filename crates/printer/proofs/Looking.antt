@@ -30,6 +30,10 @@ module _ (index image : List ℕ) (i : ℕ) {a b : ℕ} (p : a ≡ i + 1) (q : b
   pub nth-found : {w : Kinds} (c : Class) {n m : ℕ} {f : Option ℕ} → w ≡ kinds c → m ≡ n → f ≡ numberOf (nthOf w m (partsFrom image index a b)) → f ≡ numberOf (nth c n (partsOf image index i))
   nth-found c e g h = h ∙ rw (e, g, p, q)
 
+  -- the first part of a class, where no other is wanted
+  pub first-found : {w : Kinds} (c : Class) {n m : ℕ} {f : Option ℕ} → w ≡ kinds c → m ≡ n → m ≡ 0 → f ≡ numberOf (nthOf w 0 (partsFrom image index a b)) → f ≡ numberOf (nth c n (partsOf image index i))
+  first-found c e g z h = nth-found c e (sym z ∙ g) h
+
   -- the last part of a class
   pub last-found : {w : Kinds} (c : Class) {f : Option ℕ} → w ≡ kinds c → f ≡ numberOf (lastOf w (partsFrom image index a b)) → f ≡ numberOf (last c (partsOf image index i))
   last-found c e h = h ∙ rw (e, p, q)

@@ -10,6 +10,7 @@ use children::between::Bounds;
 use children::between::bounds_between;
 use tree::Found;
 use tree::access::end_at;
+use tree::access::first_from;
 use tree::access::kind_at;
 use tree::access::last_of;
 use tree::access::nth_of;
@@ -46,7 +47,7 @@ pub fn first_of(image: &[u8], index: &[u32], i: u32, c: Class) -> Found
 {
     let a = first_in(image, index, i);
     let b = end_at(index, i);
-    nth_of(image, index, kinds_of(c), 0, a, b)
+    first_from(image, index, kinds_of(c), a, b)
 }
 
 // The marks of the parts of element i, or all marks where these are not asked for.
@@ -75,6 +76,17 @@ fn is_marked(m: u64, w: u32) -> bool
     (m >> w) % 2 == 1
 }
 
+// The wanted part with a number, which may be another than the first of its kinds.
+fn counted_part(image: &[u8], index: &[u32], i: u32, w: u32) -> Found
+    requires { ⌜ At (now image) (now index) i ⌝ }
+    requires { ⌜ w < wantCount ⌝ }
+    ensures { λ r. ⌜ found r ≡ numberOf (nth (wantAt w .class) (wantAt w .place) (partsIn image index i)) ⌝ }
+{
+    let a = first_in(image, index, i);
+    let b = end_at(index, i);
+    nth_of(image, index, kinds_wanted(w), place_wanted(w), a, b)
+}
+
 // The wanted part with a number, of a node whose parts have the marks m.
 pub fn wanted_part(image: &[u8], index: &[u32], i: u32, m: u64, w: u32) -> Found
     requires { ⌜ At (now image) (now index) i ⌝ }
@@ -85,9 +97,12 @@ pub fn wanted_part(image: &[u8], index: &[u32], i: u32, m: u64, w: u32) -> Found
     if !is_marked(m, w) {
         return Found::Nothing;
     }
+    if place_wanted(w) != 0 {
+        return counted_part(image, index, i, w);
+    }
     let a = first_in(image, index, i);
     let b = end_at(index, i);
-    nth_of(image, index, kinds_wanted(w), place_wanted(w), a, b)
+    first_from(image, index, kinds_wanted(w), a, b)
 }
 
 // Whether the wanted part with a number is there; number 0 is none.
