@@ -94,7 +94,7 @@ fn node(ops: &mut [u32], cells: &mut [u32; 8], image: &[u8], index: &[u32], i: u
     ensures { λ _. ⌜ PlansIn ops cells image index (printOf (now (image .entry)) i) ⌝ }
 {
     let k = kind_at(index, i);
-    if (k >= kind::FIRST_TOKEN) | (k == kind::VISIBILITY) {
+    if k >= kind::FIRST_TOKEN {
         plan_token(ops, cells, i);
         return;
     }
@@ -105,6 +105,7 @@ fn node(ops: &mut [u32], cells: &mut [u32; 8], image: &[u8], index: &[u32], i: u
         kind::OBJ_BODY_COMP => comp(ops, cells, image, index, i),
         kind::OBJ_BODY_MEMBER_LIST => list(ops, cells, image, index, i, ListKind::Object),
         kind::ARGS_DESC => args(ops, cells, image, index, i),
+        kind::VISIBILITY => plan_token(ops, cells, i),
         _ => row(ops, cells, image, index, i),
     }
 }
