@@ -1,6 +1,6 @@
 -- The laws of marks: one that is set says that the first part of its class is there, and where one is not set, none is looked for.
 use mathlib.Core.Path.{_≡_, refl, sym, ap, _∙_}
-use mathlib.Core.Bool.{Bool, true, false, not, cond, _&&_, _||_, false≢true}
+use mathlib.Core.Bool.{Bool, true, false, not, cond, _&&_, _||_, or-assoc, or-false as or-idle, false≢true}
 use mathlib.Core.Option.{Option, none as nothing, some}
 use mathlib.Core.List.{List, [], _∷_}
 use Prim.Native.Nat.{ℕ, zero, suc, _+_, _*_, _-_, _/_, _%_, _^_, _<_, _≤_, max}
@@ -9,7 +9,7 @@ use native.Mathlib.Omega.{arith}
 use lib.Bits.{bitOr, or-shr, or-step}
 use lib.ListN.{getD}
 use borrow.Author.Tests.{eq-eqb, ne-eqb, eqb-true, eqb-false, ltb-true, lt-leb, not-true, not-false}
-use Rattle.text.specs.Basic.{any, present, sameBytes, ascii}
+use Rattle.text.specs.Basic.{any, present}
 use Rattle.text.proofs.Below.{allBelow, below, agree, same-below}
 use Rattle.tree.specs.Tree.{Part}
 use Rattle.tree.specs.declared.class.Kinds.{Kinds}
@@ -33,10 +33,7 @@ marksAll k m = allBelow wantCount (λ w. agree (marked m w) (ofKind (wantAt w .c
 
 -- the marks of a kind in the table
 pub marks-coded : (k : ℕ) {q m : ℕ} → q ≡ k → marksAll k m ≡ true → MarksOf q m
-marks-coded k {q} {m} e t = rw e (record { of-class = same-below wantCount (marked m) (ofKind-of k) t })
-  where
-    ofKind-of : ℕ → ℕ → Bool
-    ofKind-of k w = ofKind (wantAt w .class) k
+marks-coded k {q} {m} e t = rw e (record { of-class = same-below wantCount (marked m) (λ w. ofKind (wantAt w .class) k) t })
 
 -- no mark is set in 0
 none-marked : (w : ℕ) → w < wantCount → marked 0 w ≡ false
@@ -93,14 +90,6 @@ or-marked a b w = go (marked a w) refl (marked b w) refl
         let m : b / 2 ^ w % 2 ≡ 1 → ⊥ = eqb-false (b / 2 ^ w % 2) 1 f in
         ne-eqb X 1 (λ p. omega (arith, larger, p))
 
-or-none : (b : Bool) → (b || false) ≡ b
-or-none true = refl
-or-none false = refl
-
-or-assoc : (a b c : Bool) → (a || (b || c)) ≡ ((a || b) || c)
-or-assoc true b c = refl
-or-assoc false b c = refl
-
 -- The parts of element i from j on are still to be marked.
 pub record Marking (image index : List ℕ) (i m j : ℕ) : Type 0 where
   pub region : Region image index j (endAt index i)
@@ -122,7 +111,7 @@ module _ {image index : List ℕ} {i : ℕ} where
           region = region-next (r .region) l;
           rest = λ w v.
               r .rest w v ∙ ap (λ x. marked m w || any (is (wantAt w .class)) x) (region-part (r .region) l)
-              ∙ rw (or-marked m n w, s .of-class w v, g) (or-assoc (marked m w) (ofKind (wantAt w .class) (kindAt index j)) _);
+              ∙ rw (or-marked m n w, s .of-class w v, g) (sym (or-assoc (marked m w) (ofKind (wantAt w .class) (kindAt index j)) _));
         })
 
     pub marking-all : {sure : Bool} → end ≤ j → Marks (partsOf image index i) sure m
@@ -130,7 +119,7 @@ module _ {image index : List ℕ} {i : ℕ} where
     marking-all h = record { absent = λ w v u. told w v u; there = λ s w v u. told w v u }
       where
         told : (w : ℕ) → w < wantCount → {b : Bool} → marked m w ≡ b → any (is (wantAt w .class)) (partsOf image index i) ≡ b
-        told w v u = r .rest w v ∙ rw (parts-over index image j (endAt index i) (omega (arith, e))) (or-none (marked m w)) ∙ u
+        told w v u = r .rest w v ∙ rw (parts-over index image j (endAt index i) (omega (arith, e))) (or-idle (marked m w)) ∙ u
 
 -- ---- what is not there
 
@@ -180,7 +169,7 @@ pub there-marked : {ps : List Part} {m : ℕ} (w : ℕ) {n : ℕ} {r : Bool} →
 unfolding wanted any
 there-marked {ps} {m} w k h z p q e =
     let o : wantAt w .place ≡ 0 = sym p ∙ q in
-    rw (ne-eqb w 0 z, o, ← first-there (kinds (wantAt w .class)) ps) (e ∙ told (marked m w) refl ∙ sym (or-none (any (is (wantAt w .class)) ps)))
+    rw (ne-eqb w 0 z, o, ← first-there (kinds (wantAt w .class)) ps) (e ∙ told (marked m w) refl ∙ sym (or-idle (any (is (wantAt w .class)) ps)))
   where
     told : (b : Bool) → marked m w ≡ b → marked m w ≡ any (is (wantAt w .class)) ps
     told true u = u ∙ sym (k .there refl w h u)

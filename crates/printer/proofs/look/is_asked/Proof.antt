@@ -1,4 +1,3 @@
-use borrow.Author.Needs.{needs}
 use Rattle.printer.proofs.Looking.{asked-by, asked-always}
 use Rattle.printer.proofs.Marking.{marks-told}
 use Rattle.printer.proofs.look.is_asked.Statement.{statement}
