@@ -173,10 +173,15 @@ def tests(pieces):
     return sum((p[0] > 0) + (p[1] > 0) + (p[2] > 0) + (p[3] == PART and p[5] == 0) + 2 * (p[3] == PLUS) for p in pieces)
 
 
+def marked(pieces):
+    """Whether the parts of a node with these pieces are marked first: if a piece goes by them, or there is more than one test."""
+    return any(any(p[:3]) for p in pieces) or tests(pieces) > 1
+
+
 def row_entries(tables):
-    """Where the row of each kind starts and ends, and whether the node's parts are marked first: if there is more than one test."""
+    """Where the row of each kind starts and ends, and whether the node's parts are marked first."""
     starts = [min([s for k, s in tables.starts.items() if k >= kind], default=len(tables.pieces)) for kind in range(NODES + 1)]
-    return {k: packed([a, b, int(tests(tables.pieces[a:b]) > 1)]) for k, (a, b) in enumerate(zip(starts, starts[1:]))}
+    return {k: packed([a, b, int(marked(tables.pieces[a:b]))]) for k, (a, b) in enumerate(zip(starts, starts[1:]))}
 
 
 def piece_entries(tables):
@@ -188,19 +193,19 @@ def want_entries(tables):
 
 
 def marks_entries(tables):
-    """For each kind the wanted parts whose class it is of, a bit each; a node that no row wants has no entry."""
+    """For each kind the wanted parts whose class it is of, a bit each."""
     ranges = [kinds(c) for c, _ in tables.wants]
     marks = [sum(1 << w for w, (lo, hi, but) in enumerate(ranges) if lo <= k <= hi and k != but) for k in range(KINDS)]
-    return {k: f"0x{m:x}" for k, m in enumerate(marks) if m or k >= NODES}
+    return {k: f"0x{m:x}" for k, m in enumerate(marks)}
 
 
 # The tables of src/rows.rt: the function that has one, its entries, and the laws that an entry is that of its number, by computed
 # tests, and of a number that has none.
 TABLES = (
     ("row_code", row_entries, "rowed {} {} refl refl", "no-arm {} (c .before .pre) (c .match .rest)"),
-    ("piece_code", piece_entries, "coded {} {} refl refl", "no-arm {} (c .before .pre) (c .match .rest)"),
+    ("piece_code", piece_entries, "coded {} {} refl refl refl", "no-arm {} (c .before .pre) (c .match .rest)"),
     ("want_code", want_entries, "want-coded {} {} refl refl", "no-arm {} (c .before .pre) (c .match .rest)"),
-    ("marks_of", marks_entries, "marks-coded {} {} refl", "marks-coded _ refl refl"),
+    ("marks_of", marks_entries, "marks-coded {} {} refl", "marks-beyond {0} (behind-all {0} _ (c .match .rest)) refl"),
 )
 
 

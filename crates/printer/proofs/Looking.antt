@@ -1,11 +1,11 @@
 -- The laws of looking parts up: what was found is the part that the definition names, and one of the node's.
 use mathlib.Core.Path.{_≡_, refl, sym, _∙_}
-use mathlib.Core.Bool.{Bool, true, false, cond, not, _&&_, _||_}
+use mathlib.Core.Bool.{Bool, true, false, cond, not, _&&_, _||_, false≢true}
 use mathlib.Core.Option.{Option, none as nothing, some}
 use mathlib.Core.List.{List, [], _∷_, _++_}
 use Prim.Native.Nat.{ℕ, _+_}
 use lib.Dec.{eqb}
-use borrow.Author.Tests.{eq-eqb, ne-eqb}
+use borrow.Author.Tests.{eq-eqb, ne-eqb, not-true}
 use Rattle.text.specs.Basic.{any, isNil, present, orElse}
 use Rattle.tree.specs.Tree.{Part}
 use Rattle.tree.specs.declared.class.Class.{Class}
@@ -18,7 +18,7 @@ use Rattle.children.proofs.Among.{has-here, has-later, none-some, nth-has, last
 use Rattle.printer.specs.declared.rows.Entry.{Entry}
 use Rattle.printer.specs.Layout
 use Rattle.printer.specs.Layout.{Want, asked}
-use Rattle.printer.specs.Rows.{wantAt, wanted, pieceOf}
+use Rattle.printer.specs.Rows.{wantAt, wanted, pieceOf, tested}
 use Rattle.printer.specs.Under.{At, partsOf}
 use Rattle.printer.specs.Reads.{partFor, Has}
 use Rattle.printer.proofs.Under.{at-region}
@@ -29,6 +29,10 @@ module _ (index image : List ℕ) (i : ℕ) {a b : ℕ} (p : a ≡ i + 1) (q : b
   -- the n-th part of a class
   pub nth-found : {w : Kinds} (c : Class) {n m : ℕ} {f : Option ℕ} → w ≡ kinds c → m ≡ n → f ≡ numberOf (nthOf w m (partsFrom image index a b)) → f ≡ numberOf (nth c n (partsOf image index i))
   nth-found c e g h = h ∙ rw (e, g, p, q)
+
+  -- the first part of a class, where no other is wanted
+  pub first-found : {w : Kinds} (c : Class) {n m : ℕ} {f : Option ℕ} → w ≡ kinds c → m ≡ n → m ≡ 0 → f ≡ numberOf (nthOf w 0 (partsFrom image index a b)) → f ≡ numberOf (nth c n (partsOf image index i))
+  first-found c e g z h = nth-found c e (sym z ∙ g) h
 
   -- the last part of a class
   pub last-found : {w : Kinds} (c : Class) {f : Option ℕ} → w ≡ kinds c → f ≡ numberOf (lastOf w (partsFrom image index a b)) → f ≡ numberOf (last c (partsOf image index i))
@@ -92,6 +96,16 @@ none-named g o = go (eqb g 0) (eqb o 0)
 pub asked-by : (ps : List Part) (x : Entry) {g o u : Bool} → g ≡ any (Layout.found ps) (wanted (x .given)) → o ≡ any (Layout.found ps) (wanted (x .other)) → u ≡ any (Layout.found ps) (wanted (x .unless))
     → (((eqb (x .given) 0 && eqb (x .other) 0) || (g || o)) && not u) ≡ asked ps (pieceOf x)
 asked-by ps x p q r = rw (p, q, r, none-named (x .given) (x .other), any-both (Layout.found ps) (wanted (x .given)) (wanted (x .other)))
+
+-- so is one that goes by no parts
+pub asked-always : (ps : List Part) (x : Entry) → x .tested ≡ tested (pieceOf x) → not (x .tested) ≡ true → true ≡ asked ps (pieceOf x)
+unfolding any
+asked-always ps x e h = go (pieceOf x .given) (pieceOf x .unless) (sym e ∙ not-true (x .tested) h)
+  where
+    go : (gs us : List Want) → not (isNil gs && isNil us) ≡ false → true ≡ ((isNil gs || any (Layout.found ps) gs) && not (any (Layout.found ps) us))
+    go [] [] h = refl
+    go [] (u ∷ us) h = absurd (false≢true (sym h))
+    go (g ∷ gs) us h = absurd (false≢true (sym h))
 
 -- ---- what was found is one of the node's parts
 

@@ -1,15 +1,16 @@
--- The laws of marks: where one is not set, the part that it stands for is not looked for.
+-- The laws of marks: one that is set says that the first part of its class is there, and where one is not set, none is looked for.
 use mathlib.Core.Path.{_≡_, refl, sym, ap, _∙_}
-use mathlib.Core.Bool.{Bool, true, false, not, cond, _&&_, _||_, false≢true}
+use mathlib.Core.Bool.{Bool, true, false, not, cond, _&&_, _||_, or-assoc, or-false as or-idle, false≢true}
 use mathlib.Core.Option.{Option, none as nothing, some}
 use mathlib.Core.List.{List, [], _∷_}
 use Prim.Native.Nat.{ℕ, zero, suc, _+_, _*_, _-_, _/_, _%_, _^_, _<_, _≤_, max}
+use lib.Dec.{leb, ltb, eqb}
 use native.Mathlib.Omega.{arith}
 use lib.Bits.{bitOr, or-shr, or-step}
 use lib.ListN.{getD}
-use borrow.Author.Tests.{ne-eqb, eqb-false, not-true}
-use Rattle.text.specs.Basic.{any, sameBytes, ascii}
-use Rattle.text.proofs.Below.{allBelow, below}
+use borrow.Author.Tests.{eq-eqb, ne-eqb, eqb-true, eqb-false, ltb-true, lt-leb, not-true, not-false}
+use Rattle.text.specs.Basic.{any, present}
+use Rattle.text.proofs.Below.{allBelow, below, agree, same-below}
 use Rattle.tree.specs.Tree.{Part}
 use Rattle.tree.specs.declared.class.Kinds.{Kinds}
 use Rattle.tree.specs.declared.class.Class.the-variants as Class
@@ -18,48 +19,85 @@ use Rattle.tree.specs.Index.{kindAt, endAt, partAt, partsFrom, Region}
 use Rattle.tree.proofs.Accepted.{or-false}
 use Rattle.tree.proofs.Siblings.{region-part, region-past, region-next, parts-over}
 use Rattle.printer.specs.declared.rows.Entry.{Entry}
+use Rattle.printer.specs.Layout
 use Rattle.printer.specs.Reads.{partFor}
-use Rattle.printer.specs.Rows.{wants, wantAt, wantCount, marked, MarksOf, Marks}
+use Rattle.printer.specs.Rows.{wants, wantAt, wanted, wantCount, marked, MarksOf, Marks}
 use Rattle.printer.specs.Under.{At, partsOf}
 use Rattle.printer.proofs.Under.{at-region}
 
 -- ---- the marks of a kind
 
--- the wanted parts whose class has the kind are marked
+-- bit w is set for the wanted parts whose class has the kind
 abbrev pub marksAll : ℕ → ℕ → Bool
-marksAll k m = allBelow wantCount (λ w. marked m w || not (ofKind (wantAt w .class) k))
+marksAll k m = allBelow wantCount (λ w. agree (marked m w) (ofKind (wantAt w .class) k))
 
 -- the marks of a kind in the table
 pub marks-coded : (k : ℕ) {q m : ℕ} → q ≡ k → marksAll k m ≡ true → MarksOf q m
-marks-coded k {q} {m} e t = rw e (record { absent = λ w h u. go (marked m w) (ofKind (wantAt w .class) k) u (below wantCount (λ w. marked m w || not (ofKind (wantAt w .class) k)) t w h) })
+marks-coded k {q} {m} e t = rw e (record { of-class = same-below wantCount (marked m) (λ w. ofKind (wantAt w .class) k) t })
+
+-- no mark is set in 0
+none-marked : (w : ℕ) → w < wantCount → marked 0 w ≡ false
+none-marked w h = not-true (marked 0 w) (below wantCount (λ w. not (marked 0 w)) refl w h)
+
+-- a kind behind those of all classes
+pub marks-beyond : (n : ℕ) {k : ℕ} → n ≤ k → allBelow wantCount (λ w. ltb (kinds (wantAt w .class) .hi) n) ≡ true → MarksOf k 0
+unfolding oneOf
+marks-beyond n {k} h t = record { of-class = λ w v. none-marked w v ∙ sym (go w (ltb-true _ n (below wantCount (λ w. ltb (kinds (wantAt w .class) .hi) n) t w v))) }
   where
-    go : (a b : Bool) → a ≡ false → (a || not b) ≡ true → b ≡ false
-    go true b u v = absurd (false≢true (sym u))
-    go false true u v = absurd (false≢true v)
-    go false false u v = refl
+    go : (w : ℕ) → kinds (wantAt w .class) .hi < n → ofKind (wantAt w .class) k ≡ false
+    go w v = rw (lt-leb k (kinds (wantAt w .class) .hi) (omega arith)) (no (leb (kinds (wantAt w .class) .lo) k))
+      where
+        no : (b : Bool) → ((b && false) && not (eqb k (kinds (wantAt w .class) .but))) ≡ false
+        no true = refl
+        no false = refl
 
 -- ---- the marks of a node's parts
 
--- all marks are those of any parts
-pub marks-any : (ps : List Part) → Marks ps 18446744073709551615
-marks-any ps = record { absent = λ w h u. absurd (false≢true (sym u ∙ below wantCount (λ w. marked 18446744073709551615 w) refl w h)) }
+-- all marks are those of any parts, if they need not be sure
+pub marks-any : (ps : List Part) {sure : Bool} → not sure ≡ true → Marks ps sure 18446744073709551615
+marks-any ps {sure} n = record {
+  absent = λ w h u. absurd (false≢true (sym u ∙ below wantCount (λ w. marked 18446744073709551615 w) refl w h));
+  there = λ s. absurd (false≢true (sym (not-true sure n) ∙ s));
+}
 
--- a mark is set in none of two masks
-or-marked : (a b w : ℕ) → marked (bitOr a b) w ≡ false → (marked a w ≡ false) × (marked b w ≡ false)
-or-marked a b w h =
-    let e : bitOr a b / 2 ^ w ≡ bitOr (a / 2 ^ w) (b / 2 ^ w) = or-shr a b w in
-    let s = or-step (a / 2 ^ w) (b / 2 ^ w) in
-    let n : bitOr a b / 2 ^ w % 2 ≡ 1 → ⊥ = eqb-false (bitOr a b / 2 ^ w % 2) 1 h in
-    (ne-eqb (a / 2 ^ w % 2) 1 (λ p. n (omega (arith, e, s, p))), ne-eqb (b / 2 ^ w % 2) 1 (λ p. n (omega (arith, e, s, p))))
+-- marks that are sure where it is asked
+pub marks-for : {ps : List Part} {a b : Bool} {m : ℕ} → Marks ps a m → (b ≡ true → a ≡ true) → Marks ps b m
+marks-for k f = record { absent = k .absent; there = λ s. k .there (f s) }
+
+-- or anywhere
+pub marks-told : {ps : List Part} {a : Bool} {m : ℕ} → Marks ps a m → not a ≡ false → Marks ps true m
+marks-told {ps} {a} k h = marks-for k (λ s. not-false a h)
+
+-- or nowhere
+pub marks-weak : {ps : List Part} {a : Bool} {m : ℕ} → Marks ps a m → Marks ps false m
+marks-weak k = marks-for k (λ s. absurd (false≢true s))
+
+-- a mark is set in one of two masks
+or-marked : (a b w : ℕ) → marked (bitOr a b) w ≡ (marked a w || marked b w)
+or-marked a b w = go (marked a w) refl (marked b w) refl
+  where
+    X : ℕ
+    X = bitOr a b / 2 ^ w % 2
+
+    larger : X ≡ max (a / 2 ^ w % 2) (b / 2 ^ w % 2)
+    larger = omega (arith, or-shr a b w, or-step (a / 2 ^ w) (b / 2 ^ w))
+
+    go : (p : Bool) → marked a w ≡ p → (q : Bool) → marked b w ≡ q → marked (bitOr a b) w ≡ (p || q)
+    go true e q f = eq-eqb X 1 (omega (arith, larger, eqb-true (a / 2 ^ w % 2) 1 e))
+    go false e true f = eq-eqb X 1 (omega (arith, larger, eqb-true (b / 2 ^ w % 2) 1 f))
+    go false e false f =
+        let n : a / 2 ^ w % 2 ≡ 1 → ⊥ = eqb-false (a / 2 ^ w % 2) 1 e in
+        let m : b / 2 ^ w % 2 ≡ 1 → ⊥ = eqb-false (b / 2 ^ w % 2) 1 f in
+        ne-eqb X 1 (λ p. omega (arith, larger, p))
 
 -- The parts of element i from j on are still to be marked.
 pub record Marking (image index : List ℕ) (i m j : ℕ) : Type 0 where
   pub region : Region image index j (endAt index i)
-  pub rest : (w : ℕ) → w < wantCount → marked m w ≡ false → any (is (wantAt w .class)) (partsFrom image index j (endAt index i)) ≡ false → any (is (wantAt w .class)) (partsOf image index i) ≡ false
+  pub rest : (w : ℕ) → w < wantCount → any (is (wantAt w .class)) (partsOf image index i) ≡ (marked m w || any (is (wantAt w .class)) (partsFrom image index j (endAt index i)))
 
 module _ {image index : List ℕ} {i : ℕ} where
   pub marking-none : {j : ℕ} → At image index i → j ≡ i + 1 → Marking image index i 0 j
-  marking-none t e = rw e (record { region = at-region t refl refl; rest = λ w h u k. k })
+  marking-none t e = rw e (record { region = at-region t refl refl; rest = λ w h. rw (none-marked w h) })
 
   module _ {m j end : ℕ} (r : Marking image index i m j) (e : end ≡ endAt index i) where
     pub marking-less : {k : ℕ} → j < end → k ≡ endAt index j → end - k < end - j
@@ -71,12 +109,17 @@ module _ {image index : List ℕ} {i : ℕ} where
         let l : j < endAt index i = omega (arith, e) in
         rw f (record {
           region = region-next (r .region) l;
-          rest = λ w v u k. let (a, b) = or-marked m n w u in r .rest w v a (ap (any (is (wantAt w .class))) (region-part (r .region) l) ∙ rw (← g, s .absent w v b) k);
+          rest = λ w v.
+              r .rest w v ∙ ap (λ x. marked m w || any (is (wantAt w .class)) x) (region-part (r .region) l)
+              ∙ rw (or-marked m n w, s .of-class w v, g) (sym (or-assoc (marked m w) (ofKind (wantAt w .class) (kindAt index j)) _));
         })
 
-    pub marking-all : end ≤ j → Marks (partsOf image index i) m
+    pub marking-all : {sure : Bool} → end ≤ j → Marks (partsOf image index i) sure m
     unfolding any
-    marking-all h = record { absent = λ w v u. r .rest w v u (rw (parts-over index image j (endAt index i) (omega (arith, e)))) }
+    marking-all h = record { absent = λ w v u. told w v u; there = λ s w v u. told w v u }
+      where
+        told : (w : ℕ) → w < wantCount → {b : Bool} → marked m w ≡ b → any (is (wantAt w .class)) (partsOf image index i) ≡ b
+        told w v u = r .rest w v ∙ rw (parts-over index image j (endAt index i) (omega (arith, e))) (or-idle (marked m w)) ∙ u
 
 -- ---- what is not there
 
@@ -99,7 +142,7 @@ plus-absent (x ∷ xs) h =
     let (a, b) = or-false (is Class.Operator x) (any (is Class.Operator) xs) h in
     rw a (plus-absent xs b)
 
-module _ {ps : List Part} {m : ℕ} (k : Marks ps m) {r : Bool} where
+module _ {ps : List Part} {m : ℕ} (k : Marks ps false m) {r : Bool} where
   -- a wanted part that is not marked
   pub want-absent : (w : ℕ) → w < wantCount → r ≡ marked m w → not r ≡ true → nothing ≡ numberOf (nth (wantAt w .class) (wantAt w .place) ps)
   want-absent w h e u = rw (nth-absent (kinds (wantAt w .class)) (wantAt w .place) ps (k .absent w h (sym e ∙ not-true r u)))
@@ -108,3 +151,26 @@ module _ {ps : List Part} {m : ℕ} (k : Marks ps m) {r : Bool} where
   pub part-absent : (x : Entry) → (x .what ≡ 4 → ⊥) → r ≡ marked m 0 → not r ≡ true → nothing ≡ numberOf (partFor x ps)
   unfolding partFor wants
   part-absent x h e u = rw (ne-eqb (x .what) 4 h, plus-absent ps (k .absent 0 (omega arith) (sym e ∙ not-true r u)))
+
+-- ---- what is there
+
+-- the first part of these kinds is there if any is
+first-there : (w : Kinds) (ps : List Part) → any (λ x. oneOf w (x .kind)) ps ≡ present (nthOf w 0 ps)
+unfolding nthOf any
+first-there w [] = refl
+first-there w (x ∷ xs) = go (oneOf w (x .kind)) (first-there w xs)
+  where
+    go : (b : Bool) → any (λ x. oneOf w (x .kind)) xs ≡ present (nthOf w 0 xs) → (b || any (λ x. oneOf w (x .kind)) xs) ≡ present (cond b (some x) (nthOf w 0 xs))
+    go true h = refl
+    go false h = h
+
+-- a wanted part that is the first of its kinds, by its mark
+pub there-marked : {ps : List Part} {m : ℕ} (w : ℕ) {n : ℕ} {r : Bool} → Marks ps true m → w < wantCount → (w ≡ 0 → ⊥) → n ≡ wantAt w .place → n ≡ 0 → r ≡ marked m w → r ≡ any (Layout.found ps) (wanted w)
+unfolding wanted any
+there-marked {ps} {m} w k h z p q e =
+    let o : wantAt w .place ≡ 0 = sym p ∙ q in
+    rw (ne-eqb w 0 z, o, ← first-there (kinds (wantAt w .class)) ps) (e ∙ told (marked m w) refl ∙ sym (or-idle (any (is (wantAt w .class)) ps)))
+  where
+    told : (b : Bool) → marked m w ≡ b → marked m w ≡ any (is (wantAt w .class)) ps
+    told true u = u ∙ sym (k .there refl w h u)
+    told false u = u ∙ sym (k .absent w h u)

@@ -31,44 +31,47 @@ use Rattle.printer.specs.Layout
 use Rattle.printer.specs.Layout.{asked, layout, rows}
 use Rattle.printer.specs.Print.{eachOf, what, row}
 use Rattle.plan.specs.Words.{words, wordAt, wordOrNone, wordCount}
-use Rattle.printer.specs.Rows.{wantAt, whatOf, pieceOf, allPieces, pieceAt, settled, Coded, RowOf, pieceCount}
+use Rattle.printer.specs.Rows.{wantAt, whatOf, pieceOf, allPieces, pieceAt, tested, settled, Coded, RowOf, Marks, pieceCount}
 use Rattle.printer.proofs.Seq.{Goes, goes-none, goes-more, goes-all, seq-assoc, none-first, none-last}
 use Rattle.printer.specs.Under.{At, Kid, under, partsOf, printOf}
 use Rattle.printer.specs.Reads.{numberOr, partFor, Has}
 use Rattle.printer.proofs.Under.{size, kid-of, kid-found, kid-print, kid-less, at-region}
 use Rattle.printer.proofs.Readings.{part-number, behind-kid}
+use Rattle.printer.proofs.Marking.{marks-for}
 
 -- ---- the pieces of a row in turn
 
--- The pieces from n on are still to be printed, of the row of element i.
-pub record Rowing (image index : List ℕ) (i end : ℕ) (o a : Held) (n : ℕ) : Type 0 where
+-- The pieces from n on are still to be printed, of the row of element i, whose parts have the marks m.
+pub record Rowing (image index : List ℕ) (i m end : ℕ) (o a : Held) (n : ℕ) : Type 0 where
   pub few : end ≤ pieceCount
+  pub marks : (q : ℕ) → n ≤ q → q < end → Marks (partsOf image index i) (tested (pieceAt q)) m
   pub goes : Goes (sourceAt image index) (row (under image i) (partsOf image index i) (layout (kindAt index i))) (row (under image i) (partsOf image index i) (take (end - n) (drop n allPieces))) o a
 
 pieces-count : length allPieces ≡ pieceCount
 unfolding allPieces rows flatten
 pieces-count = refl
 
-module _ {image index : List ℕ} {i : ℕ} {o : Held} where
-  pub rowing-none : {e : Extent} {k : ℕ} → RowOf k e → k ≡ kindAt index i → Rowing image index i (e .end) o o (e .start)
-  rowing-none r q = record { few = r .within; goes = rw (r .pieces-of, q) (goes-none _ o) }
+module _ {image index : List ℕ} {i m : ℕ} {o : Held} where
+  pub rowing-none : {e : Extent} {k : ℕ} → RowOf k e → k ≡ kindAt index i → Marks (partsOf image index i) (eqb (e .marks) 1) m → Rowing image index i m (e .end) o o (e .start)
+  rowing-none r q s = record { few = r .within; marks = λ n h l. marks-for s (r .marking n h l); goes = rw (r .pieces-of, q) (goes-none _ o) }
 
-  pub rowing-more : {end n m : ℕ} {a b : Held} → Rowing image index i end o a n → n < end
-      → Plans (sourceAt image index) (when (asked (partsOf image index i) (pieceAt n)) (what (under image i) (partsOf image index i) (pieceAt n .what))) a b → m ≡ n + 1 → Rowing image index i end o b m
+  pub rowing-more : {end n k : ℕ} {a b : Held} → Rowing image index i m end o a n → n < end
+      → Plans (sourceAt image index) (when (asked (partsOf image index i) (pieceAt n)) (what (under image i) (partsOf image index i) (pieceAt n .what))) a b → k ≡ n + 1 → Rowing image index i m end o b k
   unfolding row
-  rowing-more {end} {n} {m} r h p e =
+  rowing-more {end} {n} {k} r h p e =
       let q : end - n ≡ suc (end - suc n) = omega arith in
-      let s : m ≡ suc n = omega arith in
+      let s : k ≡ suc n = omega arith in
       record {
         few = r .few;
+        marks = λ x h l. r .marks x (omega arith) l;
         goes = rw s (goes-more (r .goes) (rw (q, drop-cons allPieces n (Layout.t "") (omega (arith, pieces-count, r .few)))) p);
       }
 
-  -- the next piece is one of the table
-  pub rowing-in : {end n : ℕ} {a : Held} → Rowing image index i end o a n → n < end → n < pieceCount
-  rowing-in r h = omega (arith, r .few)
+  -- the next piece is one of the table, and the marks are sure if it goes by parts
+  pub rowing-in : {end n : ℕ} {a : Held} → Rowing image index i m end o a n → n < end → Marks (partsOf image index i) (tested (pieceAt n)) m × (n < pieceCount)
+  rowing-in {end} {n} r h = (r .marks n (omega arith) h, omega (arith, r .few))
 
-  pub rowing-all : {end n : ℕ} {a : Held} → Rowing image index i end o a n → end ≤ n → Plans (sourceAt image index) (row (under image i) (partsOf image index i) (layout (kindAt index i))) o a
+  pub rowing-all : {end n : ℕ} {a : Held} → Rowing image index i m end o a n → end ≤ n → Plans (sourceAt image index) (row (under image i) (partsOf image index i) (layout (kindAt index i))) o a
   unfolding row
   rowing-all {end} {n} r h = let q : end - n ≡ 0 = omega arith in goes-all (r .goes) (rw q)
 

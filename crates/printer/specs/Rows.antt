@@ -1,13 +1,13 @@
 -- What the numbers in the code's tables mean: wanted parts and pieces of rows.
 use mathlib.Core.Path.{_≡_}
-use mathlib.Core.Bool.{Bool, true, false, cond, not, _||_}
+use mathlib.Core.Bool.{Bool, true, false, cond, not, _&&_, _||_}
 use mathlib.Core.List.{List, [], _∷_, _++_, flatten, map}
 use Prim.Native.Nat.{ℕ, _-_, _/_, _%_, _^_, _<_, _≤_}
 use Prim.Native.String.{String}
 use lib.Dec.{leb, eqb}
 use lib.ListN.{getD, take, drop}
 use Rattle.items.specs.declared.Signal.the-variants.{NewLine, StartIndent, FinishIndent}
-use Rattle.text.specs.Basic.{any}
+use Rattle.text.specs.Basic.{any, isNil}
 use Rattle.tree.specs.Tree.{Part}
 use Rattle.tree.specs.declared.class.Class.the-variants as Class
 use Rattle.tree.specs.declared.class.Kinds.{Kinds}
@@ -57,6 +57,10 @@ whatOf k w s =
 abbrev pub pieceOf : Entry → Piece
 pieceOf x = record { given = wanted (x .given) ++ wanted (x .other); unless = wanted (x .unless); what = whatOf (x .what) (x .want) (x .word) }
 
+-- a piece goes by the parts that are there
+abbrev pub tested : Piece → Bool
+tested p = not (isNil (p .given) && isNil (p .unless))
+
 -- the pieces of all rows in their order
 unfoldable pub allPieces : List Piece
 allPieces = flatten (map Row.pieces rows)
@@ -79,7 +83,7 @@ bitsAt n s = n / 2 ^ s % 256
 
 -- the entry that stands in a table's number
 abbrev pub entryOf : ℕ → Entry
-entryOf n = record { given = bitsAt n 0; other = bitsAt n 8; unless = bitsAt n 16; what = bitsAt n 24; want = bitsAt n 32; word = bitsAt n 40 }
+entryOf n = record { tested = not (eqb (n % 16777216) 0); given = bitsAt n 0; other = bitsAt n 8; unless = bitsAt n 16; what = bitsAt n 24; want = bitsAt n 32; word = bitsAt n 40 }
 
 -- the row that stands in it
 abbrev pub extentOf : ℕ → Extent
@@ -92,6 +96,7 @@ kindsIn n = record { lo = bitsAt n 0; hi = bitsAt n 8; but = bitsAt n 16 }
 -- The entry of piece q: what it means, and that its numbers are in the tables.
 pub record Coded (q : ℕ) (x : Entry) : Type 0 where
   pub piece : pieceOf x ≡ pieceAt q
+  pub tests : x .tested ≡ tested (pieceOf x)
   pub given : x .given < wantCount
   pub other : x .other < wantCount
   pub unless : x .unless < wantCount
@@ -99,26 +104,28 @@ pub record Coded (q : ℕ) (x : Entry) : Type 0 where
   pub word : x .word < wordCount
   pub settles : settled x ≡ true
 
--- The pieces of a kind's row are those of the definition.
+-- The pieces of a kind's row are those of the definition, and parts are marked where one of them goes by these.
 pub record RowOf (k : ℕ) (r : Extent) : Type 0 where
   pub pieces-of : take (r .end - r .start) (drop (r .start) allPieces) ≡ layout k
   pub within : r .end ≤ pieceCount
+  pub marking : (q : ℕ) → r .start ≤ q → q < r .end → tested (pieceAt q) ≡ true → eqb (r .marks) 1 ≡ true
 
 -- A number holds the kinds of wanted part w, and which of them it is.
 pub record WantOf (w n : ℕ) : Type 0 where
   pub class-kinds : kindsIn n ≡ kinds (wantAt w .class)
   pub which : bitsAt n 24 ≡ wantAt w .place
 
--- ---- marks: a bit for each wanted part that may be there
+-- ---- marks: a bit for each wanted part, by its class
 
 -- bit w of a number is set
 abbrev pub marked : ℕ → ℕ → Bool
 marked m w = eqb (m / 2 ^ w % 2) 1
 
--- Where bit w of m is not set, the kind k is not of the class of wanted part w.
+-- Bit w of m is set where the kind k is of the class of wanted part w.
 pub record MarksOf (k m : ℕ) : Type 0 where
-  pub absent : (w : ℕ) → w < wantCount → marked m w ≡ false → ofKind (wantAt w .class) k ≡ false
+  pub of-class : (w : ℕ) → w < wantCount → marked m w ≡ ofKind (wantAt w .class) k
 
--- Where bit w of m is not set, none of the parts is.
-pub record Marks (ps : List Part) (m : ℕ) : Type 0 where
+-- Where bit w of m is not set, none of the parts is; and where it is set, one of them is, if the marks are sure.
+pub record Marks (ps : List Part) (sure : Bool) (m : ℕ) : Type 0 where
   pub absent : (w : ℕ) → w < wantCount → marked m w ≡ false → any (is (wantAt w .class)) ps ≡ false
+  pub there : sure ≡ true → (w : ℕ) → w < wantCount → marked m w ≡ true → any (is (wantAt w .class)) ps ≡ true

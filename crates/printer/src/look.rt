@@ -10,6 +10,7 @@ use children::between::Bounds;
 use children::between::bounds_between;
 use tree::Found;
 use tree::access::end_at;
+use tree::access::first_from;
 use tree::access::kind_at;
 use tree::access::last_of;
 use tree::access::nth_of;
@@ -19,6 +20,7 @@ use tree::class::kinds_of;
 use tree::is_nothing;
 use tree::or_else;
 ghost use mathlib.Core.Path.{_≡_};
+ghost use mathlib.Core.Bool.{true, false};
 ghost use Prim.Native.Nat.{_+_, _<_};
 ghost use Rattle.text.specs.Basic.{any};
 ghost use Rattle.tree.specs.Answer.{found};
@@ -26,7 +28,7 @@ ghost use Rattle.tree.specs.declared.class.Class.the-variants.{RBrace};
 ghost use Rattle.tree.specs.Class.{nth, first, last, numberOf};
 ghost use Rattle.printer.specs.Layout;
 ghost use Rattle.printer.specs.Layout.{asked};
-ghost use Rattle.printer.specs.Rows.{wantAt, wanted, pieceOf, wantCount, marked, Marks};
+ghost use Rattle.printer.specs.Rows.{wantAt, wanted, pieceOf, tested, wantCount, marked, Marks};
 ghost use Rattle.printer.specs.Under.{At, partsOf};
 ghost use Rattle.printer.specs.Reads.{partFor};
 ghost use Rattle.printer.specs.Contracts.{specStartIn, partsIn, firstIn, BoundedIn};
@@ -46,13 +48,13 @@ pub fn first_of(image: &[u8], index: &[u32], i: u32, c: Class) -> Found
 {
     let a = first_in(image, index, i);
     let b = end_at(index, i);
-    nth_of(image, index, kinds_of(c), 0, a, b)
+    first_from(image, index, kinds_of(c), a, b)
 }
 
-// The marks of the parts of element i, or all marks where these are not asked for.
+// The marks of the parts of element i, or all marks, which are not sure, where these are not asked for.
 pub fn marks_in(image: &[u8], index: &[u32], i: u32, asked: bool) -> u64
     requires { ⌜ At (now image) (now index) i ⌝ }
-    ensures { λ r. ⌜ Marks (partsIn image index i) r ⌝ }
+    ensures { λ r. ⌜ Marks (partsIn image index i) asked r ⌝ }
 {
     if !asked {
         return ALL_MARKS;
@@ -67,7 +69,7 @@ pub fn marks_in(image: &[u8], index: &[u32], i: u32, asked: bool) -> u64
     m
 }
 
-// Whether the wanted part with a number may be there.
+// Whether a bit of marks is set.
 fn is_marked(m: u64, w: u32) -> bool
     requires { ⌜ w < wantCount ⌝ }
     ensures { λ r. ⌜ r ≡ marked m w ⌝ }
@@ -75,43 +77,65 @@ fn is_marked(m: u64, w: u32) -> bool
     (m >> w) % 2 == 1
 }
 
+// The wanted part with a number, which may be another than the first of its kinds.
+fn counted_part(image: &[u8], index: &[u32], i: u32, w: u32) -> Found
+    requires { ⌜ At (now image) (now index) i ⌝ }
+    requires { ⌜ w < wantCount ⌝ }
+    ensures { λ r. ⌜ found r ≡ numberOf (nth (wantAt w .class) (wantAt w .place) (partsIn image index i)) ⌝ }
+{
+    let a = first_in(image, index, i);
+    let b = end_at(index, i);
+    nth_of(image, index, kinds_wanted(w), place_wanted(w), a, b)
+}
+
 // The wanted part with a number, of a node whose parts have the marks m.
 pub fn wanted_part(image: &[u8], index: &[u32], i: u32, m: u64, w: u32) -> Found
     requires { ⌜ At (now image) (now index) i ⌝ }
-    requires { ⌜ Marks (partsOf (now image) (now index) i) m ⌝ }
+    requires { ⌜ Marks (partsOf (now image) (now index) i) false m ⌝ }
     requires { ⌜ w < wantCount ⌝ }
     ensures { λ r. ⌜ found r ≡ numberOf (nth (wantAt w .class) (wantAt w .place) (partsIn image index i)) ⌝ }
 {
     if !is_marked(m, w) {
         return Found::Nothing;
     }
+    if place_wanted(w) != 0 {
+        return counted_part(image, index, i, w);
+    }
     let a = first_in(image, index, i);
     let b = end_at(index, i);
-    nth_of(image, index, kinds_wanted(w), place_wanted(w), a, b)
+    first_from(image, index, kinds_wanted(w), a, b)
 }
 
-// Whether the wanted part with a number is there; number 0 is none.
+// Whether the wanted part with a number is there, of a node whose parts have the marks m; number 0 is none. The first of its kinds is
+// not looked for.
 fn is_there(image: &[u8], index: &[u32], i: u32, m: u64, w: u32) -> bool
     requires { ⌜ At (now image) (now index) i ⌝ }
-    requires { ⌜ Marks (partsOf (now image) (now index) i) m ⌝ }
+    requires { ⌜ Marks (partsOf (now image) (now index) i) true m ⌝ }
     requires { ⌜ w < wantCount ⌝ }
     ensures { λ r. ⌜ r ≡ any (Layout.found (partsIn image index i)) (wanted w) ⌝ }
 {
     if w == 0 {
         return false;
     }
-    !is_nothing(wanted_part(image, index, i, m, w))
+    if place_wanted(w) != 0 {
+        return !is_nothing(counted_part(image, index, i, w));
+    }
+    is_marked(m, w)
 }
 
 // Whether a piece is printed.
 pub fn is_asked(image: &[u8], index: &[u32], i: u32, m: u64, x: Entry) -> bool
     requires { ⌜ At (now image) (now index) i ⌝ }
-    requires { ⌜ Marks (partsOf (now image) (now index) i) m ⌝ }
+    requires { ⌜ Marks (partsOf (now image) (now index) i) (x .tested) m ⌝ }
+    requires { ⌜ x .tested ≡ tested (pieceOf x) ⌝ }
     requires { ⌜ x .given < wantCount ⌝ }
     requires { ⌜ x .other < wantCount ⌝ }
     requires { ⌜ x .unless < wantCount ⌝ }
     ensures { λ r. ⌜ r ≡ asked (partsIn image index i) (pieceOf x) ⌝ }
 {
+    if !x.tested {
+        return true;
+    }
     let given = is_there(image, index, i, m, x.given);
     let other = is_there(image, index, i, m, x.other);
     let barred = is_there(image, index, i, m, x.unless);
@@ -122,7 +146,7 @@ pub fn is_asked(image: &[u8], index: &[u32], i: u32, m: u64, x: Entry) -> bool
 // The part that a piece prints.
 pub fn part_of(image: &[u8], index: &[u32], i: u32, m: u64, x: Entry) -> Found
     requires { ⌜ At (now image) (now index) i ⌝ }
-    requires { ⌜ Marks (partsOf (now image) (now index) i) m ⌝ }
+    requires { ⌜ Marks (partsOf (now image) (now index) i) false m ⌝ }
     requires { ⌜ x .want < wantCount ⌝ }
     ensures { λ r. ⌜ found r ≡ numberOf (partFor x (partsIn image index i)) ⌝ }
 {

@@ -82,7 +82,7 @@ ghost use Rattle.plan.specs.Plans.{PlansIn};
 ghost use Rattle.printer.specs.declared.lists.Style.the-variants.{Specs};
 ghost use Rattle.printer.specs.Layout.{layout};
 ghost use Rattle.printer.specs.Print.{what, row, children, list, arguments, compOf, comprehension, localOf, valuesOf, expression};
-ghost use Rattle.printer.specs.Rows.{pieceAt, wantCount, pieceCount, Marks};
+ghost use Rattle.printer.specs.Rows.{pieceAt, tested, wantCount, pieceCount, Marks};
 ghost use Rattle.printer.specs.Under.{At, Kid, printOf, partsOf};
 ghost use Rattle.printer.specs.Walked.{Outlined};
 ghost use Rattle.printer.specs.Reads.{numberOr, Has, Within, readAt, Whole, kidsIn, Walks};
@@ -94,7 +94,7 @@ fn node(ops: &mut [u32], cells: &mut [u32; 8], image: &[u8], index: &[u32], i: u
     ensures { λ _. ⌜ PlansIn ops cells image index (printOf (now (image .entry)) i) ⌝ }
 {
     let k = kind_at(index, i);
-    if (k >= kind::FIRST_TOKEN) | (k == kind::VISIBILITY) {
+    if k >= kind::FIRST_TOKEN {
         plan_token(ops, cells, i);
         return;
     }
@@ -105,6 +105,7 @@ fn node(ops: &mut [u32], cells: &mut [u32; 8], image: &[u8], index: &[u32], i: u
         kind::OBJ_BODY_COMP => comp(ops, cells, image, index, i),
         kind::OBJ_BODY_MEMBER_LIST => list(ops, cells, image, index, i, ListKind::Object),
         kind::ARGS_DESC => args(ops, cells, image, index, i),
+        kind::VISIBILITY => plan_token(ops, cells, i),
         _ => row(ops, cells, image, index, i),
     }
 }
@@ -128,7 +129,7 @@ fn row(ops: &mut [u32], cells: &mut [u32; 8], image: &[u8], index: &[u32], i: u3
 // A piece of the row of element i, whose parts have the marks m.
 fn piece(ops: &mut [u32], cells: &mut [u32; 8], image: &[u8], index: &[u32], i: u32, m: u64, n: u32)
     requires { ⌜ At (now image) (now index) i ⌝ }
-    requires { ⌜ Marks (partsOf (now image) (now index) i) m ⌝ }
+    requires { ⌜ Marks (partsOf (now image) (now index) i) (tested (pieceAt n)) m ⌝ }
     requires { ⌜ n < pieceCount ⌝ }
     ensures { λ _. ⌜ PlansIn ops cells image index (pieceIn image index i (pieceAt n)) ⌝ }
 {

@@ -21,8 +21,10 @@ pub const EACH: u32 = 5;
 
 pub const EACH_ENDED: u32 = 6;
 
-// A piece: only if one of two parts is there, where any is named, and a third is not; what it prints, of which part, with which text.
+// A piece: whether it goes by other parts, and then only if one of two is there, where any is named, and a third is not; what it prints,
+// of which part, with which text.
 pub struct Entry {
+    pub tested: bool,
     pub given: u32,
     pub other: u32,
     pub unless: u32,
@@ -38,11 +40,14 @@ pub struct Extent {
     pub marks: u32,
 }
 
-// Marks of a node's parts: a bit for each wanted part that may be there, by its number; all of them; the number of operators, of which
-// the `+` of a field is one.
+// Marks of a node's parts: a bit for each wanted part whose class one of them is of, by its number; all of them; the number of operators,
+// of which the `+` of a field is one.
 pub const ALL_MARKS: u64 = 0xffff_ffff_ffff_ffff;
 
 pub const OPERATORS: u32 = 0;
+
+// What a piece goes by stands in the bits of its number below this one.
+const CONDITION: u64 = 0x100_0000;
 
 // The eight bits of a table's number from a place on.
 fn bits_at(code: u64, place: u32) -> u32
@@ -77,8 +82,8 @@ fn row_code(k: u32) -> u64
         15 => 0x01_1f_19,
         16 => 0x00_23_1f,
         17 => 0x00_25_23,
-        18 => 0x00_28_25,
-        19 => 0x00_2c_28,
+        18 => 0x01_28_25,
+        19 => 0x01_2c_28,
         20 => 0x00_2d_2c,
         21 => 0x00_2e_2d,
         22 => 0x00_2e_2e,
@@ -302,6 +307,7 @@ pub fn entry_at(q: u32) -> Entry
 {
     let code = piece_code(q);
     Entry {
+        tested: code % CONDITION != 0,
         given: bits_at(code, 0),
         other: bits_at(code, 8),
         unless: bits_at(code, 16),
@@ -376,17 +382,43 @@ pub fn place_wanted(w: u32) -> u32
     bits_at(want_code(w), 24)
 }
 
-// The table of marks: for each kind the wanted parts whose class it is of. A node of a kind that no row wants has all of them: it stands
-// under no node that has a row.
+// The table of marks: for each kind the wanted parts whose class it is of.
 pub fn marks_of(k: u32) -> u64
     ensures { λ r. ⌜ MarksOf k r ⌝ }
 {
     match k {
+        0 => 0x0,
+        1 => 0x0,
         2 => 0xa,
+        3 => 0x0,
+        4 => 0x0,
+        5 => 0x0,
+        6 => 0x0,
+        7 => 0x0,
+        8 => 0x0,
+        9 => 0x0,
+        10 => 0x0,
+        11 => 0x0,
+        12 => 0x0,
+        13 => 0x0,
+        14 => 0x0,
+        15 => 0x0,
+        16 => 0x0,
+        17 => 0x0,
+        18 => 0x0,
+        19 => 0x0,
+        20 => 0x0,
+        21 => 0x0,
+        22 => 0x0,
+        23 => 0x0,
         24 => 0x100000000,
         25 => 0x100000000,
         26 => 0x100,
         27 => 0x100,
+        28 => 0x0,
+        29 => 0x0,
+        30 => 0x0,
+        31 => 0x0,
         32 => 0x200,
         33 => 0x200,
         34 => 0x200,
@@ -403,6 +435,7 @@ pub fn marks_of(k: u32) -> u64
         45 => 0x10000000,
         46 => 0x20000000,
         47 => 0x40000,
+        48 => 0x0,
         49 => 0x8000,
         50 => 0x80000000,
         51 => 0x200000,
@@ -411,6 +444,13 @@ pub fn marks_of(k: u32) -> u64
         54 => 0x4000,
         55 => 0x2000000,
         56 => 0x800000,
+        57 => 0x0,
+        58 => 0x0,
+        59 => 0x0,
+        60 => 0x0,
+        61 => 0x0,
+        62 => 0x0,
+        63 => 0x0,
         64 => 0x0,
         65 => 0x0,
         66 => 0x0,
@@ -455,6 +495,6 @@ pub fn marks_of(k: u32) -> u64
         105 => 0x0,
         106 => 0x2000,
         107 => 0x0,
-        _ => ALL_MARKS,
+        _ => 0,
     }
 }

@@ -99,6 +99,21 @@ fn count_down(left: u32, counts: bool) -> u32
     left - 1
 }
 
+// The first part of these kinds of the siblings from a on that begin before b.
+pub fn first_from(image: &[u8], index: &[u32], w: Kinds, a: u32, b: u32) -> Found
+    requires { ⌜ Region (now image) (now index) a b ⌝ }
+    ensures { λ r. ⌜ found r ≡ numberOf (nthOf w 0 (partsFrom (now (image .entry)) (now (index .entry)) a b)) ⌝ }
+{
+    let mut j = a;
+    while j < b {
+        if is(w, kind_at(index, j)) {
+            return Found::At(Element(j));
+        }
+        j = end_at(index, j);
+    }
+    Found::Nothing
+}
+
 // The n-th part of these kinds, from 0, of the siblings from a on that begin before b.
 pub fn nth_of(image: &[u8], index: &[u32], w: Kinds, n: u32, a: u32, b: u32) -> Found
     requires { ⌜ Region (now image) (now index) a b ⌝ }

@@ -16,7 +16,7 @@ marks-in-spec =
     (tie.spec
     Inv-loop
     μ-loop
-    (λ c. marks-any _)  -- returns
+    (λ c. search marks-any)  -- returns
     (λ c κs. search needs)  -- end-at-requires
     (λ c κs. search needs)  -- first-in-requires
     (λ c. search marking-none)  -- loop-holds

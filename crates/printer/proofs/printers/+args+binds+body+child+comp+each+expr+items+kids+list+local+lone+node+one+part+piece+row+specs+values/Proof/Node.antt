@@ -57,16 +57,23 @@ returns-7 t c =
     by (node-own (m .before .before .before .before .before .before .pre .1) (m .before .before .kind-at .ensures) 47 (m .match .keys6)) (c1 .args2 .ensures)
 
 returns-8 : (t : ℕ) → lts.Need-returns-8 (node-claims t) (node-at t) node.Post
+unfolding element
 returns-8 t c =
     let c1 = c .before .before in
     let m = c1 .before .before .before in
-    by (node-row (m .before .before .before .before .before .before .pre .1) (m .before .before .kind-at .ensures) (rowed-rest _ (m .before .if1 .left) (m .match .rest .0 .0 .0 .0 .0 .1) (m .match .rest .0 .0 .0 .0 .1) (m .match .rest .0 .0 .0 .1) (m .match .rest .0 .0 .1) (m .match .rest .0 .1) (m .match .rest .1))) (c1 .row .ensures)
+    by (node-own (m .before .before .before .before .before .before .pre .1) (m .before .before .kind-at .ensures) 56 (m .match .keys7)) (c1 .plan-token2 .ensures _)
+
+returns-9 : (t : ℕ) → lts.Need-returns-9 (node-claims t) (node-at t) node.Post
+returns-9 t c =
+    let c1 = c .before .before in
+    let m = c1 .before .before .before in
+    by (node-row (m .before .before .before .before .before .before .pre .1) (m .before .before .kind-at .ensures) (rowed-rest _ (m .before .if1 .left) (m .match .rest .0 .0 .0 .0 .0 .0 .1) (m .match .rest .0 .0 .0 .0 .0 .1) (m .match .rest .0 .0 .0 .0 .1) (m .match .rest .0 .0 .0 .1) (m .match .rest .0 .0 .1) (m .match .rest .0 .1) (m .match .rest .1))) (c1 .row .ensures)
 
 row-asked : (t : ℕ) → lts.Need-row-requires (node-claims t) (node-at t) node.Post
 row-asked t c κs =
     let m = c .before .before in
     let s = m .before .before .before .before .before .before in
-    (omega (arith, s .pre .0), (s .pre .1, rowed-small _ _ (m .before .before .kind-at .ensures) (rowed-rest _ (m .before .if1 .left) (m .match .rest .0 .0 .0 .0 .0 .1) (m .match .rest .0 .0 .0 .0 .1) (m .match .rest .0 .0 .0 .1) (m .match .rest .0 .0 .1) (m .match .rest .0 .1) (m .match .rest .1))))
+    (omega (arith, s .pre .0), (s .pre .1, rowed-small _ _ (m .before .before .kind-at .ensures) (rowed-rest _ (m .before .if1 .left) (m .match .rest .0 .0 .0 .0 .0 .0 .1) (m .match .rest .0 .0 .0 .0 .0 .1) (m .match .rest .0 .0 .0 .0 .1) (m .match .rest .0 .0 .0 .1) (m .match .rest .0 .0 .1) (m .match .rest .0 .1) (m .match .rest .1))))
 
 pub node-closed : {M : Type 1} (t : ℕ) → lts.Closed (node-claims t) (node-at t) node.Post M
 node-closed t =
@@ -84,6 +91,7 @@ node-closed t =
     (λ c κs. let s = c .before .before .before .before .before .before .before .before in (omega (arith, s .pre .0), s .pre .1))  -- comp-requires
     (λ c κs. let s = c .before .before .before .before .before .before .before .before in (omega (arith, s .pre .0), s .pre .1))  -- list-requires-2
     (λ c κs. let s = c .before .before .before .before .before .before .before .before in (omega (arith, s .pre .0), s .pre .1))  -- args-requires
+    (λ c κs. element-fits (c .before .before .before .before .before .before .before .before .pre .1))  -- plan-token-requires-2
     (row-asked t)  -- row-requires
     (λ c. returns-2 t c .sameOps)  -- same-length-2
     (returns-2 t)  -- returns-2
@@ -99,3 +107,5 @@ node-closed t =
     (returns-7 t)  -- returns-7
     (λ c. returns-8 t c .sameOps)  -- same-length-8
     (returns-8 t)  -- returns-8
+    (λ c. returns-9 t c .sameOps)  -- same-length-9
+    (returns-9 t)  -- returns-9

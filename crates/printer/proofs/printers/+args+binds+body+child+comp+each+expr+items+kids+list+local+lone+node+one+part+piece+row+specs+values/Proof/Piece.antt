@@ -5,6 +5,8 @@ use mathlib.Core.Path.{sym, ap, _∙_}
 use native.Mathlib.Omega.{arith}
 use Rattle.printer.specs.Reads.{numberOr}
 use Rattle.printer.proofs.Looking.{part-has}
+use Rattle.printer.proofs.Marking.{marks-for, marks-weak}
+use Rattle.printer.specs.Rows.{tested}
 use Rattle.printer.proofs.printers.piece.Reads as piece
 use Rattle.printer.proofs.printers.+args+binds+body+child+comp+each+expr+items+kids+list+local+lone+node+one+part+piece+row+specs+values.Lts-piece as lts
 use Rattle.printer.proofs.printers.+args+binds+body+child+comp+each+expr+items+kids+list+local+lone+node+one+part+piece+row+specs+values.Proof.Cycle.{piece-at, piece-claims}
@@ -39,7 +41,7 @@ is-asked-asked : (t : ℕ) → lts.Need-is-asked-requires (piece-claims t) (piec
 is-asked-asked t c κs =
     let s = c .before .before .before .before in
     let x = c .entry-at .ensures in
-    (s .pre .1 .0, (s .pre .1 .1 .0, (x .given, (x .other, x .unless))))
+    (s .pre .1 .0, (marks-for (s .pre .1 .1 .0) (λ e. ap tested (sym (x .piece)) ∙ sym (x .tests) ∙ e), (x .tests, (x .given, (x .other, x .unless)))))
 
 each-asked : (t : ℕ) → lts.Need-each-requires (piece-claims t) (piece-at t) piece.Post
 each-asked t c κs =
@@ -51,7 +53,7 @@ part-of-asked : (t : ℕ) → lts.Need-part-of-requires (piece-claims t) (piece-
 part-of-asked t c κs =
     let x = c .before .before .before .before .before .before .before in
     let s = x .before .before .before .before in
-    (s .pre .1 .0, (s .pre .1 .1 .0, x .entry-at .ensures .want))
+    (s .pre .1 .0, (marks-weak (s .pre .1 .1 .0), x .entry-at .ensures .want))
 
 part-asked : (t : ℕ) → lts.Need-part-requires (piece-claims t) (piece-at t) piece.Post
 part-asked t c κs =

@@ -9,7 +9,7 @@ use Rattle.printer.proofs.printers.+args+binds+body+child+comp+each+exp
 use Rattle.printer.proofs.printers.+args+binds+body+child+comp+each+expr+items+kids+list+local+lone+node+one+part+piece+row+specs+values.Proof.Cycle.{row-at, row-claims}
 
 abbrev Inv-loop : lts.InvT-loop
-Inv-loop ops₀ cells₀ image index i m end n₀ ops cells n = Rowing image index i end (held ops₀ cells₀) (held ops cells) n
+Inv-loop ops₀ cells₀ image index i m end n₀ ops cells n = Rowing image index i m end (held ops₀ cells₀) (held ops cells) n
 
 abbrev μ-loop : lts.MeasureT-loop
 μ-loop ops₀ cells₀ image index i m end n₀ ops cells n = end - n
@@ -21,7 +21,7 @@ piece-asked : (t : ℕ) → lts.Need-piece-requires (row-claims t) (row-at t) ro
 piece-asked t c κs =
     let l = c .before .before .before in
     let s = l .before .before .before .before .before .before .before .before in
-    (omega (arith, s .pre .0), (s .pre .1 .0, (l .before .marks-in .ensures, rowing-in (l .loop .inv) (c .before .before .loop-test .taken))))
+    (omega (arith, s .pre .0), (s .pre .1 .0, rowing-in (l .loop .inv) (c .before .before .loop-test .taken)))
 
 again : (t : ℕ) → lts.Need-loop-again (row-claims t) (row-at t) row.Post Inv-loop μ-loop
 again t c =
@@ -40,7 +40,7 @@ row-closed t =
     (λ c κs. search needs)  -- kind-at-requires
     (λ c κs. search needs)  -- row-of-requires
     (λ c κs. search needs)  -- marks-in-requires
-    (λ c. rowing-none (c .before .before .row-of .ensures) (c .before .before .before .kind-at .ensures))  -- loop-holds
+    (λ c. rowing-none (c .before .before .row-of .ensures) (c .before .before .before .kind-at .ensures) (c .marks-in .ensures))  -- loop-holds
     (piece-asked t)  -- piece-requires
     (λ c. search needs)  -- add-n
     (λ c. search needs)  -- loop-less
