@@ -19,7 +19,11 @@ impl Inputs {
         Self {
             seed,
             count,
-            at_limits: edges::edges().into_iter().map(|(_, bytes)| bytes).collect(),
+            at_limits: edges::edges()
+                .into_iter()
+                .map(|(_, bytes)| bytes)
+                .chain(edges::dense_images())
+                .collect(),
         }
     }
 
