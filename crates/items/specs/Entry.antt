@@ -1,4 +1,4 @@
--- What the one function that emits is handed and promises. Only contracts of private functions cite this.
+-- What the functions that emit, and those that advance a size, are handed and promise. Only contracts of private functions cite this.
 use mathlib.Core.Path.{_≡_}
 use mathlib.Core.Bool.{cond}
 use mathlib.Core.List.{List}
@@ -10,6 +10,7 @@ use Rattle.items.specs.declared.Printed.{Printed}
 use Rattle.items.specs.declared.Printed.the-variants.{Done, Stopped, Full}
 use Rattle.items.specs.declared.Room.{Room}
 use Rattle.items.specs.declared.Room.the-variants.{Line, Nowhere}
+use Rattle.items.specs.declared.Size.{Size}
 use Rattle.items.specs.Item.{Item}
 use Rattle.items.specs.Role.{role, isRun, isMark}
 use Rattle.items.specs.Names.{lineLength}
@@ -47,6 +48,16 @@ pub record InRange (line : ℕ) (e : Entry) (c : Count) : Type 0 where
   pub runs : c .runs + e .runs < 2 ^ 32
   pub marks : c .marks + e .marks < 2 ^ 32
   pub lines : c .lines + line < 2 ^ 32
+
+-- the size after a record with so many bytes of text and of its line
+abbrev pub sizeAfter : ℕ → ℕ → Size → Size
+sizeAfter bytes line p = record { records = p .records + 1; texts = p .texts + bytes; lines = p .lines + line }
+
+-- The numbers of the size after such a record are u32s.
+pub record RoomAfter (bytes line : ℕ) (p : Size) : Type 0 where
+  pub records : p .records + 1 < 2 ^ 32
+  pub texts : p .texts + bytes < 2 ^ 32
+  pub lines : p .lines + line < 2 ^ 32
 
 -- the records with an entry's record at its place
 abbrev pub storeEntry : Entry → Count → List ℕ → List ℕ

@@ -11,7 +11,7 @@ ghost use Prim.Native.Nat.{max, _+_, _<_, _≤_, _^_};
 ghost use lib.ListN.{length, set};
 ghost use Rattle.items.specs.Item.{say, plainItem, text, signal, signalKind};
 ghost use Rattle.items.specs.Machine.{PrintsIn, PutsIn, allFit, countsAt, sized, store, storeRecord, noCounts, noSize};
-ghost use Rattle.items.specs.Entry.{Emitted, InRange, entryOf, grownWith, plainEntry, roomFor, storeEntry};
+ghost use Rattle.items.specs.Entry.{Emitted, InRange, RoomAfter, entryOf, grownWith, plainEntry, roomFor, sizeAfter, storeEntry};
 ghost use Rattle.items.specs.Names.{lineLength};
 ghost use Rattle.items.specs.declared.Printed.the-variants.{Done};
 
@@ -322,16 +322,32 @@ fn emit(records: &mut [u32], e: Entry, p: Printed) -> Printed
 
 // The size after one record more, with so many bytes of text and of its line.
 fn after(p: Size, bytes: u32, line: u32) -> Size
-    requires { ⌜ p .records + 1 < 2 ^ 32 ⌝ }
-    requires { ⌜ p .texts + bytes < 2 ^ 32 ⌝ }
-    requires { ⌜ p .lines + line < 2 ^ 32 ⌝ }
-    ensures { λ r. ⌜ r ≡ record { records = p .records + 1; texts = p .texts + bytes; lines = p .lines + line } ⌝ }
+    requires { ⌜ RoomAfter bytes line p ⌝ }
+    ensures { λ r. ⌜ r ≡ sizeAfter bytes line p ⌝ }
 {
     Size {
         records: p.records + 1,
         texts: p.texts + bytes,
         lines: p.lines + line,
     }
+}
+
+// Advances the size that is lent by a record. It is thin: the checker covers no reference to a struct, so this function and the
+// next are proved by walks of their operations.
+fn advance(p: &mut Size, bytes: u32, line: u32)
+    requires { ⌜ RoomAfter bytes line (now p) ⌝ }
+    ensures { λ _. ⌜ now (p .exit) ≡ sizeAfter bytes line (now (p .entry)) ⌝ }
+{
+    *p = after(*p, bytes, line);
+}
+
+// Lends the size for a record, and gives it back: whoever calls this lends none and needs no walk.
+fn advanced(mut p: Size, bytes: u32, line: u32) -> Size
+    requires { ⌜ RoomAfter bytes line p ⌝ }
+    ensures { λ r. ⌜ r ≡ sizeAfter bytes line p ⌝ }
+{
+    advance(&mut p, bytes, line);
+    p
 }
 
 // Puts a text, also one of no bytes, behind what was put. Its numbers must fit.
@@ -342,7 +358,7 @@ pub fn put_text(records: &mut [u32], texts: &mut [u8], s: &[u8], p: Size) -> Siz
     let bytes = s.len() as u32;
     put_bytes(texts, p.texts as usize, s);
     put_record(records, p.records, TEXT, p.texts, bytes);
-    after(p, bytes, 0)
+    advanced(p, bytes, 0)
 }
 
 // Puts an item without a text, by its kind and its number. Its numbers must fit.
@@ -354,7 +370,7 @@ pub fn put_plain(records: &mut [u32], texts: &mut [u8], kind: u32, n: u32, p: Si
 {
     let e = plain_entry(kind, n);
     put_record(records, p.records, e.kind, e.first as u32, e.second as u32);
-    after(p, 0, 0)
+    advanced(p, 0, 0)
 }
 
 // The bytes of a record's line, where lines are counted.
@@ -375,7 +391,7 @@ pub fn count_text(s: &[u8], listed: bool, p: Size) -> Size
 {
     let bytes = s.len() as u32;
     let line = line_if(listed, p.records, TEXT, p.texts, bytes);
-    after(p, bytes, line)
+    advanced(p, bytes, line)
 }
 
 // The size after an item without a text, with its line where lines are counted. Its numbers must fit.
@@ -387,7 +403,7 @@ pub fn count_plain(kind: u32, n: u32, listed: bool, p: Size) -> Size
 {
     let e = plain_entry(kind, n);
     let line = line_if(listed, p.records, e.kind, e.first as u32, e.second as u32);
-    after(p, 0, line)
+    advanced(p, 0, line)
 }
 
 // The counts that have a size, with no run and no mark.

@@ -6,8 +6,8 @@ use borrow.Author.Needs.{needs}
 use Rattle.items.proofs.count_text.Statement.{statement}
 use Rattle.items.proofs.count_text.Tie as tie
 
-after-requires : tie.Need-after-requires
-after-requires c κs = let s = c .before .before in let h = one-fits _ _ (s .pre) in (h .records, (h .texts, omega (arith, line-most (s .args .listed) (c .line-if .ensures), h .lines)))
+advanced-requires : tie.Need-advanced-requires
+advanced-requires c κs = let s = c .before .before in let h = one-fits _ _ (s .pre) in record { records = h .records; texts = h .texts; lines = omega (arith, line-most (s .args .listed) (c .line-if .ensures), h .lines) }
 
 pub count-text-spec : {M : Type 1} → statement M
 count-text-spec =
@@ -15,6 +15,6 @@ count-text-spec =
     (tie.spec
     (λ c. omega (arith, one-fits _ _ (c .before .pre)))  -- cast-bytes
     (λ c κs. omega (arith, one-fits _ _ (c .before .pre)))  -- line-if-requires
-    (λ c κs. after-requires c κs)  -- after-requires
-    (λ c. let s = c .before .before .before in one-sized (s .args .listed) (text (s .args .s .now)) _ (s .args .p) (c .before .line-if .ensures) refl (c .after .ensures))  -- returns
+    (λ c κs. advanced-requires c κs)  -- advanced-requires
+    (λ c. let s = c .before .before .before in one-sized (s .args .listed) (text (s .args .s .now)) _ (s .args .p) (c .before .line-if .ensures) refl (c .advanced .ensures))  -- returns
     )

@@ -12,7 +12,7 @@ returns c =
     let r = c .before .before .before in
     let b = r .before .before .before .before in
     let s = b .before .before .before .before .before .before in
-    one-put (text (s .args .s .now)) (r .put-record .ensures) (b .put-bytes .ensures) (one-sized false (text (s .args .s .now)) 0 (s .args .p) refl refl (c .after .ensures))
+    one-put (text (s .args .s .now)) (r .put-record .ensures) (b .put-bytes .ensures) (one-sized false (text (s .args .s .now)) 0 (s .args .p) refl refl (c .advanced .ensures))
 
 pub put-text-spec : {M : Type 1} → statement M
 put-text-spec =
@@ -22,7 +22,7 @@ put-text-spec =
     (λ c. search needs)  -- cast-put-bytes
     (λ c κs. search needs)  -- put-bytes-requires
     (λ c κs. search needs)  -- put-record-requires
-    (λ c κs. let h = one-fits _ _ (c .before .before .before .before .before .before .before .before .before .before .before .before .pre) in (h .records, (h .texts, omega (arith, h .lines))))  -- after-requires
+    (λ c κs. let h = one-fits _ _ (c .before .before .before .before .before .before .before .before .before .before .before .before .pre) in record { records = h .records; texts = h .texts; lines = omega (arith, h .lines) })  -- advanced-requires
     (λ c. search needs)  -- same-length
     (λ c. search needs)  -- same-length-2
     returns  -- returns
