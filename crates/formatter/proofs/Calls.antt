@@ -167,8 +167,8 @@ most-small image p = let a = accepted image p in omega (arith, a .few-elements, 
 pub sized-by : {image : List ℕ} {m size : ℕ} → refusal image ≡ none → m ≡ countN image → 6 * m ≤ size → {n : ℕ} → size ≡ n → Sized image n
 sized-by p e h i = record { passed = p; few = omega (arith, h, e, i) }
 
--- the largest serve every image
-pub sized-most : {image : List ℕ} → refusal image ≡ none → Sized image 226305
+-- six operations for each element of the largest image
+pub sized-most : {image : List ℕ} → refusal image ≡ none → Sized image 24576
 sized-most {image} p = record { passed = p; few = omega (arith, accepted image p .few-elements) }
 
 -- buffers that are ample

@@ -43,6 +43,7 @@ const LARGEST: usize = 226_305;
 
 const NEXT_SIZE: usize = 4;
 
+// The operations for each element in the array that is tried first.
 const LIKELY: usize = 6;
 
 // An index has three numbers for each element, half of the operations.
@@ -116,6 +117,7 @@ fn serve_passed(
     if let Attempt::Answered(r) = a {
         return r;
     }
+    // The largest has room for every image, so that this one answers.
     let b = attempt_sized(image, records, texts, listing, listed, LARGEST);
     let Attempt::Answered(r) = b else {
         return ListAnswer::Refused(whole(Reason::RecordsTooShort));
@@ -223,7 +225,7 @@ fn attempt_large(
     serve_in(image, &mut table, &mut ops, records, texts, listing, listed)
 }
 
-// The same in arrays for every image.
+// The same in arrays for every image; the index of the largest image is no larger than in those before.
 fn attempt_largest(
     image: &[u8],
     records: &mut [u32],
@@ -231,10 +233,10 @@ fn attempt_largest(
     listing: &mut [u8],
     listed: bool,
 ) -> Attempt
-    requires { ⌜ Sized (now image) 226305 ⌝ }
+    requires { ⌜ Sized (now image) 24576 ⌝ }
     ensures { λ r. ⌜ AttemptedIn 226305 image records texts listing listed r ⌝ }
 {
-    let mut table = [0u32; LARGEST / INDEX_PART + ENTRY];
+    let mut table = [0u32; LARGE / INDEX_PART + ENTRY];
     let mut ops = [0u32; LARGEST];
     serve_in(image, &mut table, &mut ops, records, texts, listing, listed)
 }
