@@ -7,7 +7,7 @@ use oracle::{
 };
 
 /// So many images of a seed, as many of the next seed of which half are damaged,
-/// and those at the limits.
+/// those at the limits, and a few with many records for each element.
 pub struct Inputs {
     seed: u64,
     count: usize,
