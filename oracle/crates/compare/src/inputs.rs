@@ -7,7 +7,7 @@ use oracle::{
 };
 
 /// So many images of a seed, as many of the next seed of which half are damaged,
-/// those at the limits, and a few with many records for each element.
+/// those at the limits, and a few whose plans fill the library's first array.
 pub struct Inputs {
     seed: u64,
     count: usize,
