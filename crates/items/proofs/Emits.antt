@@ -1,126 +1,67 @@
 -- What a function that emits one item shows.
 use mathlib.Core.Path.{_≡_, refl, sym, _∙_}
 use mathlib.Core.Bool.{Bool, true, false, cond, not, false≢true}
-use mathlib.Core.Option.{none, some}
 use mathlib.Core.List.{List, [], _∷_, append-nil}
 use Prim.Native.Nat.{ℕ, zero, suc, _+_, _≤_}
 use lib.Dec.{eqb}
 use borrow.Author.Tests.{eqb-true, eqb-false}
-use Rattle.text.specs.Basic.{sum}
 use Rattle.text.proofs.Lists.{and-true}
-use mathlib.Core.Logic.{⊎-elim}
 use native.Mathlib.Omega.{arith}
-use native.Mathlib.Nat.{add-zero}
-use denote.Enum.Declared.{tagOf}
-use types.Run.{OneOf}
 use lib.ListN.{length}
-use Rattle.items.specs.declared.Count.{Count}
 use Rattle.items.specs.declared.Entry.{Entry}
 use Rattle.items.specs.declared.Printed.{Printed}
-use Rattle.items.specs.declared.Printed.the-variants.{Done, Stopped, Full}
+use Rattle.items.specs.declared.Printed.the-variants.{Done, Full}
 use Rattle.items.specs.declared.Signal.{Signal}
-use Rattle.items.specs.Item.{Item, text, ok, Print, say, plainItem, signal, signalKind}
-use Rattle.items.specs.Role.{role, isRun, isMark}
-use Rattle.items.specs.Records.{recordOf, bytesOf, words, bytes}
 use Rattle.items.specs.declared.Size.{Size}
-use Rattle.items.specs.Machine.{State, store, storeRecord, allFit, countsAt, sized, Puts, counted, printable, emitted, emitAll, onward, reaching, finish, run, seen, held, Prints}
-use Rattle.items.proofs.Lengths.{line-length}
-use Rattle.items.proofs.Laws.{Ended, stops, fills}
-use Rattle.items.specs.Entry.{entryOf, plainEntry, storeEntry, lineOf, grownBy, grownWith, InRange, advanced, continued, Emitted}
+use Rattle.items.specs.Item.{Item, text, plainItem, signal, signalKind}
+use Rattle.items.specs.Records.{recordOf, bytesOf, words, bytes}
+use Rattle.items.specs.Machine.{State, full, reached, store, storeRecord, allFit, sized, sizeAfter, Puts, counted, printable, emitted, emitAll, printing, seen, held, Says}
+use Rattle.items.specs.Entry.{entryOf, plainEntry, textEntry, storeEntry, lineOf, InRange, continued, recorded}
 use Rattle.items.specs.Lines.{recordLine, recordLines}
 use Rattle.items.specs.Names.{hasNumber, lineLength}
+use Rattle.items.proofs.Laws.{passed}
+use Rattle.items.proofs.Lengths.{line-length}
 use Rattle.items.proofs.Numbers.{in-range-of}
-use Rattle.items.proofs.Printed.{the-type}
-
--- the other arm of a `let Printed::Done(c) = p else`
-pub ended : (p : Printed) → OneOf (1 ∷ 2 ∷ []) (tagOf the-type p) → Ended p
-ended (Done c) h = absurd (⊎-elim (λ w. omega arith) (λ w. omega arith) h)
-ended (Stopped e) h = stops e
-ended Full h = fills
-
-never-done : {p : Printed} {c : Count} → Ended p → p ≡ Done c → ⊥
-never-done (stops e) h = let z : _≡_ {A = ℕ} 0 1 = cc in omega arith
-never-done fills h = let z : _≡_ {A = ℕ} 0 1 = cc in omega arith
-
--- ---- what the function that emits shows
-
-module _ (e : Entry) (rs : List ℕ) where
-  unwritten : (p r : Printed) → r ≡ continued e p → Ended r → Emitted e rs p rs r
-  unwritten p r h n = record { counts = h; words = λ c d _ k. absurd (never-done n k) }
-
-  pub emit-ended : (p : Printed) → Ended p → Emitted e rs p rs p
-  unfolding continued
-  emit-ended p (stops i) = unwritten p p refl (stops i)
-  emit-ended p fills = unwritten p p refl fills
-
-  module _ (p r : Printed) (c : Count) (known : p ≡ Done c) (went : r ≡ advanced e c) where
-    continues : r ≡ continued e p
-    unfolding continued
-    continues = rw known went
-
-    pub emit-full : Ended r → Emitted e rs p rs r
-    emit-full n = unwritten p r continues n
-
-    pub emit-done : (rs′ : List ℕ) → rs′ ≡ storeEntry e c rs → Emitted e rs p rs′ r
-    emit-done rs′ h = record { counts = continues; words = λ c′ d k _. let q : c ≡ c′ = cc in rw q at h }
 
 -- ---- what the functions that print one item show
 
--- At the counts c the entry e is that of the item x, the printing q prints x alone, and the texts hold its bytes.
-record Shows (q : Print) (x : Item) (e : Entry) (ts ts′ : List ℕ) (c : Count) : Type 0 where
-  pub entry : e ≡ entryOf (c .texts) x
-  pub prints : q (c .runs) ≡ ok (x ∷ []) (c .runs + isRun (role x))
-  pub bytes : ts′ ≡ store ts (c .texts) (bytesOf x)
+-- printing that is full stays so
+pub stays-full : (e : Entry) (rs : List ℕ) {o : Printed} → o ≡ Full → (o ≡ continued e o) × (rs ≡ recorded e o rs)
+unfolding continued recorded
+stays-full e rs h = rw h (refl, refl)
 
-module _ (q : Print) (x : Item) (e : Entry) (rs ts rs′ ts′ : List ℕ) where
-  advancing : (c : Count) (r : Printed) → Shows q x e ts ts′ c → Emitted e rs (Done c) rs′ r → seen rs′ ts′ r ≡ run q (seen rs ts (Done c))
-  unfolding run seen finish emitAll continued advanced
-  advancing c r s m = rw (s .prints) (go (printable c x) (rw (s .entry, line-length (c .records) (c .texts) x) at (m .counts)))
-    where
-      σ : State
-      σ = record { records = rs; texts = ts; count = c }
+-- an item is printed where its entry is emitted, and its bytes are stored if its numbers fit
+shown :
+    (x : Item) (p : Size) (rs ts : List ℕ) {e : Entry} {o r : Printed} {rs′ ts′ : List ℕ} → e ≡ entryOf (p .texts) x → o ≡ Done p → r ≡ continued e (Done p) → rs′ ≡ recorded e (Done p) rs
+    → (r ≡ Full → ts′ ≡ ts) → ((q : Size) → r ≡ Done q → ts′ ≡ store ts (p .texts) (bytesOf x)) → length rs′ ≡ length rs → length ts′ ≡ length ts → Says (x ∷ []) (held rs ts o) (held rs′ ts′ r)
+unfolding printing seen emitAll continued recorded
+shown x p rs ts {r = r} {rs′} {ts′} i k m w f g l₁ l₂ =
+    record { ran = rw k (go (printable p x) (rw (i, line-length (p .records) (p .texts) x) at m) (rw (i, line-length (p .records) (p .texts) x) at w)); sameRecords = l₁; sameTexts = l₂ }
+  where
+    σ : State
+    σ = record { records = rs; texts = ts; size = p }
 
-      go : (t : Bool) → r ≡ cond t (Done (counted c x)) Full → seen rs′ ts′ r ≡ reaching (c .runs + isRun (role x)) (onward (cond t (some (emitted x σ)) none) (emitAll []))
-      go true h = rw (h, m .words c (counted c x) refl h, s .bytes, s .entry)
-      go false h = rw h
+    go : (t : Bool) → r ≡ cond t (Done (counted p x)) Full → rs′ ≡ cond t (storeEntry (entryOf (p .texts) x) p rs) rs → seen rs′ ts′ r ≡ cond t (reached (emitted x σ)) (full rs ts)
+    go true h j = rw (h, j, g (counted p x) h) refl
+    go false h j = rw (h, j, f h) refl
 
-  -- an item is printed by the function that emits its entry
-  shown :
-      (p r : Printed) → ((c : Count) → p ≡ Done c → Shows q x e ts ts′ c) → Emitted e rs p rs′ r
-      → length rs′ ≡ length rs → length ts′ ≡ length ts → Prints q (held rs ts p) (held rs′ ts′ r)
-  unfolding run seen continued
-  shown (Done c) r s m l₁ l₂ = record { ran = advancing c r (s c refl) m; sameRecords = l₁; sameTexts = l₂ }
-  shown (Stopped e′) r s m l₁ l₂ = record { ran = rw (m .counts); sameRecords = l₁; sameTexts = l₂ }
-  shown Full r s m l₁ l₂ = record { ran = rw (m .counts); sameRecords = l₁; sameTexts = l₂ }
+-- a text that does not fit, and one that does
+module _ (p : Size) (s : List ℕ) {e : Entry} {o r : Printed} {rs ts rs′ : List ℕ} (i : e ≡ textEntry (p .texts) (length s)) (k : o ≡ Done p) (m : r ≡ continued e (Done p)) (w : rs′ ≡ recorded e (Done p) rs) where
+  pub text-full : r ≡ Full → length rs′ ≡ length rs → Says (text s ∷ []) (held rs ts o) (held rs′ ts r)
+  text-full f l = shown (text s) p rs ts i k m w (λ _. refl) (λ q h. absurd (let z : _≡_ {A = ℕ} 0 1 = cc in omega arith)) l refl
 
--- The entry e is that of the item x, which has no text and is no run.
-pub record Textless (e : Entry) (x : Item) : Type 0 where
-  pub entry : (at : ℕ) → e ≡ entryOf at x
-  pub bytes : bytesOf x ≡ []
-  pub runs : isRun (role x) ≡ 0
+  pub text-shown : {q : Size} {ts′ : List ℕ} → r ≡ Done q → ts′ ≡ store ts (p .texts) s → length rs′ ≡ length rs → length ts′ ≡ length ts → Says (text s ∷ []) (held rs ts o) (held rs′ ts′ r)
+  text-shown f b l₁ l₂ = shown (text s) p rs ts i k m w (λ h. absurd (let z : _≡_ {A = ℕ} 0 1 = cc in omega arith)) (λ q h. b) l₁ l₂
 
-pub said :
-    (x : Item) (e₀ e : Entry) (rs ts rs′ : List ℕ) (p r : Printed) → Emitted e rs p rs′ r → Textless e₀ x → e ≡ e₀ → length rs′ ≡ length rs
-    → Prints (say x) (held rs ts p) (held rs′ ts r)
-unfolding say store
-said x e₀ e rs ts rs′ p r m t h l =
-    shown (say x) x e rs ts rs′ ts p r
-    (λ c _. record { entry = h ∙ t .entry (c .texts); prints = rw (t .runs, add-zero (c .runs)); bytes = rw (t .bytes) }) m l refl
+-- an item without operands
+module _ (x : Signal) {k : ℕ} {e : Entry} {o r : Printed} {rs ts rs′ : List ℕ} (j : k ≡ signalKind x) (i : e ≡ plainEntry k 0 0) (m : r ≡ continued e o) (w : rs′ ≡ recorded e o rs) (l : length rs′ ≡ length rs) where
+  signal-at : (p : Printed) → o ≡ p → Says (signal x ∷ []) (held rs ts o) (held rs′ ts r)
+  unfolding store
+  signal-at (Done p) h = shown (signal x) p rs ts (i ∙ rw j refl) h (rw h at m) (rw h at w) (λ _. refl) (λ q h. refl) l refl
+  signal-at Full h = let (a, b) = stays-full e rs h in rw (w ∙ sym b, m ∙ sym a) (passed (signal x ∷ []) h)
 
-pub said-text :
-    (s rs ts rs′ ts′ : List ℕ) (p r : Printed) (c : Count) (e : Entry) → p ≡ Done c → ts′ ≡ store ts (c .texts) s
-    → e ≡ record { kind = 1; first = c .texts; second = length s; bytes = length s; runs = 0; marks = 0 } → Emitted e rs (Done c) rs′ r
-    → length rs′ ≡ length rs → length ts′ ≡ length ts → Prints (say (text s)) (held rs ts p) (held rs′ ts′ r)
-unfolding say
-said-text s rs ts rs′ ts′ p r c e h b g m l₁ l₂ =
-    rw h
-    (shown (say (text s)) (text s) e rs ts rs′ ts′ (Done c) r
-    (λ c′ h′. let q : c ≡ c′ = cc in record { entry = g ∙ rw q refl; prints = rw (add-zero (c′ .runs)); bytes = rw q at b }) m l₁ l₂)
-
--- ---- items with no text that are no runs
-
-pub signal-textless : (s : Signal) → Textless (plainEntry (signalKind s) 0 0) (signal s)
-signal-textless s = record { entry = λ at. refl; bytes = refl; runs = refl }
+  pub signal-shown : Says (signal x ∷ []) (held rs ts o) (held rs′ ts r)
+  signal-shown = signal-at o refl
 
 -- ---- items without a text by their kinds
 
@@ -147,12 +88,11 @@ plain-kinds P p2 p3 p4 p5 p6 p7 p8 p9 p10 p11 p12 p13 p14 p15 p16 p17 (suc (suc 
 plain-kinds P p2 p3 p4 p5 p6 p7 p8 p9 p10 p11 p12 p13 p14 p15 p16 p17 (suc (suc (suc (suc (suc (suc (suc (suc (suc (suc (suc (suc (suc (suc (suc (suc (suc (suc k)))))))))))))))))) h l = absurd (omega arith)
 
 -- an item's record by its kind and its number
-pub plain-entry : (k n : ℕ) → 2 ≤ k → k ≤ 18 → (k ≡ 18 → ⊥) → {b : Bool} {f r m : ℕ} → b ≡ hasNumber k → f ≡ cond b n 0 → r ≡ cond (eqb k 12) 1 0 → m ≡ cond (eqb k 7) 1 0
-    → record { kind = k; first = f; second = 0; bytes = 0; runs = r; marks = m } ≡ entryOf 0 (plainItem k n)
+pub plain-entry : (k n : ℕ) → 2 ≤ k → k ≤ 18 → (k ≡ 18 → ⊥) → {b : Bool} {f : ℕ} → b ≡ hasNumber k → f ≡ cond b n 0 → plainEntry k f 0 ≡ entryOf 0 (plainItem k n)
 unfolding plainItem
-plain-entry k n h l q d e i j =
-    rw (e, d, i, j)
-    (plain-kinds (λ k. record { kind = k; first = cond (hasNumber k) n 0; second = 0; bytes = 0; runs = cond (eqb k 12) 1 0; marks = cond (eqb k 7) 1 0 } ≡ entryOf 0 (plainItem k n))
+plain-entry k n h l q d e =
+    rw (e, d)
+    (plain-kinds (λ k. plainEntry k (cond (hasNumber k) n 0) 0 ≡ entryOf 0 (plainItem k n))
     refl refl refl refl refl refl refl refl refl refl refl refl refl refl refl refl k h (omega (arith, l, q)))
 
 pub lines-plain : (k n : ℕ) → k ≡ 18 → plainEntry 15 1 n ≡ entryOf 0 (plainItem k n)
@@ -173,11 +113,6 @@ plain-bare k n at h l = go (eqb k 18) refl
 
 -- ---- items that are put where their numbers fit
 
--- an item's numbers are in range where they fit
-pub one-fits : (x : Item) (c : Count) → allFit (x ∷ []) c ≡ true → InRange (lineOf (entryOf (c .texts) x) c) (entryOf (c .texts) x) c
-unfolding allFit
-one-fits x c h = in-range-of (entryOf (c .texts) x) c (rw (← (line-length (c .records) (c .texts) x)) at (and-true (printable c x) true h .0))
-
 -- the bytes of a line that is counted or not
 pub line-left : (l : Bool) (n : ℕ) → not l ≡ true → 0 ≡ cond l n 0
 line-left true n h = absurd (false≢true h)
@@ -187,30 +122,46 @@ pub line-taken : (l : Bool) {m n : ℕ} → not l ≡ false → m ≡ n → m �
 line-taken true h e = e
 line-taken false h e = absurd (false≢true (sym h))
 
-pub line-most : (l : Bool) {m n : ℕ} → m ≡ cond l n 0 → m ≤ n
-line-most true e = omega arith
-line-most false e = omega arith
+module _ (x : Item) (p : Size) where
+  abbrev at : Entry
+  at = entryOf (p .texts) x
 
--- the size after an item
-pub one-sized : (l : Bool) (x : Item) (at : ℕ) (p : Size) {d : Size} {n b : ℕ} → let r = recordOf at x in n ≡ cond l (lineLength (p .records) (r .kind) (r .first) (r .second)) 0 → b ≡ length (bytesOf x)
-    → d ≡ record { records = p .records + 1; texts = p .texts + b; lines = p .lines + n } → d ≡ sized l (x ∷ []) p
-unfolding bytes recordLines
-one-sized l x at p e i j = j ∙ rw (e, i, line-length (p .records) at x, append-nil (bytesOf x), append-nil (recordLine (p .records) x)) refl
+  -- an item's numbers are in range where they fit
+  pub one-fits : {n : ℕ} → allFit (x ∷ []) p ≡ true → n ≡ lineOf at p → InRange n at p
+  unfolding allFit
+  one-fits h e = rw e (in-range-of at p (rw (← (line-length (p .records) (p .texts) x)) at (and-true (printable p x) true h .0)))
 
--- its record stands behind the others
-pub one-put : (x : Item) {rs ts rs′ ts′ : List ℕ} {p d : Size} → let r = recordOf (p .texts) x in rs′ ≡ storeRecord rs (p .records) (r .kind) (r .first) (r .second) → ts′ ≡ store ts (p .texts) (bytesOf x)
-    → d ≡ sized false (x ∷ []) p → Puts false (x ∷ []) rs ts p rs′ ts′ d
-unfolding words bytes
-one-put x k l j = record { records = k; texts = l ∙ rw (append-nil (bytesOf x)) refl; size = j }
+  -- the size after it
+  pub one-sized : {n : ℕ} {d : Size} → n ≡ lineOf at p → d ≡ sizeAfter (length (bytesOf x)) n p → d ≡ sized (x ∷ []) p
+  unfolding bytes recordLines
+  one-sized e j = j ∙ rw (e, line-length (p .records) (p .texts) x, append-nil (bytesOf x), append-nil (recordLine (p .records) x)) refl
+
+  -- its record stands behind the others
+  pub one-put :
+      {n : ℕ} {rs ts rs′ ts′ : List ℕ} {d : Size} → n ≡ lineOf at p → rs′ ≡ storeEntry at p rs → ts′ ≡ store ts (p .texts) (bytesOf x) → d ≡ sizeAfter (length (bytesOf x)) n p
+      → Puts (x ∷ []) rs ts p rs′ ts′ d
+  unfolding words bytes
+  one-put e k l j = record { records = k; texts = l ∙ rw (append-nil (bytesOf x)) refl; size = one-sized e j }
+
+-- a text
+module _ (s : List ℕ) (p : Size) {n : ℕ} {e : Entry} (i : e ≡ textEntry (p .texts) (length s)) (c : n ≡ lineOf (entryOf (p .texts) (text s)) p) where
+  pub text-fits : allFit (text s ∷ []) p ≡ true → InRange n e p
+  text-fits f = rw i (one-fits (text s) p f c)
+
+  pub text-put : {rs ts rs′ ts′ : List ℕ} {d : Size} → rs′ ≡ storeEntry e p rs → ts′ ≡ store ts (p .texts) s → d ≡ sizeAfter (e .bytes) n p → Puts (text s ∷ []) rs ts p rs′ ts′ d
+  text-put j b d = one-put (text s) p c (rw i at j) b (rw i at d)
 
 -- one without a text
-module _ (k n : ℕ) (h : 2 ≤ k) (l : k ≤ 18) (p : Size) {e : Entry} (i : e ≡ entryOf 0 (plainItem k n)) where
-  pub plain-fits : allFit (plainItem k n ∷ []) (countsAt p) ≡ true → InRange (lineOf e (countsAt p)) e (countsAt p)
-  plain-fits f = rw (i ∙ sym (plain-bare k n (p .texts) h l .0)) (one-fits (plainItem k n) (countsAt p) f)
+module _ (k m : ℕ) (h : 2 ≤ k) (l : k ≤ 18) (p : Size) {e : Entry} (i : e ≡ entryOf 0 (plainItem k m)) {n : ℕ} (c : n ≡ lineOf e p) where
+  plain-is : e ≡ entryOf (p .texts) (plainItem k m)
+  plain-is = i ∙ sym (plain-bare k m (p .texts) h l .0)
 
-  pub plain-sized : (b : Bool) {d : Size} {m : ℕ} → m ≡ cond b (lineLength (p .records) (e .kind) (e .first) (e .second)) 0 → d ≡ record { records = p .records + 1; texts = p .texts + 0; lines = p .lines + m } → d ≡ sized b (plainItem k n ∷ []) p
-  plain-sized b c j = one-sized b (plainItem k n) 0 p (rw i at c) (rw (plain-bare k n 0 h l .1) refl) j
+  pub plain-fits : allFit (plainItem k m ∷ []) p ≡ true → InRange n e p
+  plain-fits f = rw plain-is (one-fits (plainItem k m) p f (rw plain-is at c))
 
-  pub plain-put : {rs ts rs′ : List ℕ} {d : Size} → rs′ ≡ storeRecord rs (p .records) (e .kind) (e .first) (e .second) → d ≡ record { records = p .records + 1; texts = p .texts + 0; lines = p .lines + 0 } → Puts false (plainItem k n ∷ []) rs ts p rs′ ts d
+  pub plain-sized : {d : Size} → d ≡ sizeAfter 0 n p → d ≡ sized (plainItem k m ∷ []) p
+  plain-sized j = one-sized (plainItem k m) p (rw plain-is at c) (rw (plain-bare k m (p .texts) h l .1) j)
+
+  pub plain-put : {rs ts rs′ : List ℕ} {d : Size} → rs′ ≡ storeEntry e p rs → d ≡ sizeAfter (e .bytes) n p → Puts (plainItem k m ∷ []) rs ts p rs′ ts d
   unfolding store
-  plain-put j m = let (a, b) = plain-bare k n (p .texts) h l in one-put (plainItem k n) (rw (i ∙ sym a) at j) (rw b refl) (plain-sized false refl m)
+  plain-put j d = one-put (plainItem k m) p (rw plain-is at c) (rw plain-is at j) (rw (plain-bare k m (p .texts) h l .1) refl) (rw plain-is at d)

@@ -1,122 +1,71 @@
--- Printings one after another, and printers' contracts composed.
-use mathlib.Core.Path.{_≡_, refl, sym, _∙_}
-use mathlib.Core.Option.{Option, some}
-use mathlib.Core.Option.{none as nothing}
+-- Items printed one after another, and printers' contracts composed.
+use mathlib.Core.Path.{_≡_, refl, sym, ap, _∙_}
+use mathlib.Core.Bool.{Bool, true, false, cond}
 use mathlib.Core.List.{List, [], _∷_, _++_}
 use Prim.Native.Nat.{ℕ}
-use Rattle.numbers.specs.declared.Element.{Element}
+use native.Mathlib.Omega.{arith}
+use denote.Enum.Declared.{tagOf}
+use types.Run.{OneOf}
 use Rattle.items.specs.declared.Printed.{Printed}
-use Rattle.items.specs.declared.Printed.the-variants.{Done, Stopped, Full}
-use Rattle.items.specs.Item.{Item, Out, stop, ok, Print, after, next, _⨟_, none, say, says}
-use Rattle.items.specs.Machine.{State, Outcome, halted, full, reached, emit1, emitAll, onward, halting, reaching, finish, run, seen, Held, held, Prints, Says}
+use Rattle.items.specs.declared.Printed.the-variants.{Done, Full}
+use Rattle.items.specs.declared.Size.{Size}
+use Rattle.items.specs.Item.{Item}
+use Rattle.items.specs.Machine.{State, Outcome, full, reached, printable, emitted, emitAll, printing, seen, Held, held, Says}
+use Rattle.items.proofs.Printed.{the-type}
 
-all-append : (xs ys : List Item) (σ : State) → emitAll (xs ++ ys) σ ≡ onward (emitAll xs σ) (emitAll ys)
-unfolding emitAll
+all-append : (xs ys : List Item) (σ : State) → emitAll (xs ++ ys) σ ≡ printing ys (emitAll xs σ)
+unfolding emitAll printing
 all-append [] ys σ = refl
-all-append (x ∷ xs) ys σ = step (emit1 x σ) (all-append xs ys)
+all-append (x ∷ xs) ys σ = step (printable (σ .size) x) (all-append xs ys (emitted x σ))
   where
-    step : (o : Option State) → ((τ : State) → emitAll (xs ++ ys) τ ≡ onward (emitAll xs τ) (emitAll ys)) → onward o (emitAll (xs ++ ys)) ≡ onward (onward o (emitAll xs)) (emitAll ys)
-    step nothing h = refl
-    step (some τ) h = h τ
+    stuck : Outcome
+    stuck = full (σ .records) (σ .texts)
 
--- what a printing makes of a state that may not be there
-abbrev from : Option State → Out → Outcome
-from nothing o = full
-from (some σ) o = finish σ o
+    step : (b : Bool) → emitAll (xs ++ ys) (emitted x σ) ≡ printing ys (emitAll xs (emitted x σ)) → cond b (emitAll (xs ++ ys) (emitted x σ)) stuck ≡ printing ys (cond b (emitAll xs (emitted x σ)) stuck)
+    step true h = h
+    step false h = refl
 
-finish-after : (xs : List Item) (σ : State) (o : Out) → finish σ (after xs o) ≡ from (emitAll xs σ) o
-unfolding finish
-finish-after xs σ (stop ys e) = rw (all-append xs ys σ) (meets (emitAll xs σ))
-  where
-    meets : (o : Option State) → halting e (onward o (emitAll ys)) ≡ from o (stop ys e)
-    meets nothing = refl
-    meets (some τ) = refl
-finish-after xs σ (ok ys k) = rw (all-append xs ys σ) (meets (emitAll xs σ))
-  where
-    meets : (o : Option State) → reaching k (onward o (emitAll ys)) ≡ from o (ok ys k)
-    meets nothing = refl
-    meets (some τ) = refl
-
-run-halting : (q : Print) (e : ℕ) (o : Option State) → halting e o ≡ run q (halting e o)
-unfolding run
-run-halting q e nothing = refl
-run-halting q e (some σ) = refl
-
-run-reaching : (q : Print) (k : ℕ) (o : Option State) → from o (q k) ≡ run q (reaching k o)
-unfolding run
-run-reaching q k nothing = refl
-run-reaching q k (some σ) = refl
-
-run-next : (q : Print) (σ : State) (o : Out) → finish σ (next o q) ≡ run q (finish σ o)
-unfolding finish
-run-next q σ (stop xs e) = run-halting q e (emitAll xs σ)
-run-next q σ (ok xs k) = finish-after xs σ (q k) ∙ run-reaching q k (emitAll xs σ)
-
--- one printing after another makes of an outcome what the second makes of what the first makes of it
-pub run-seq : (p q : Print) (o : Outcome) → run (p ⨟ q) o ≡ run q (run p o)
-unfolding run _⨟_
-run-seq p q (halted e) = refl
-run-seq p q full = refl
-run-seq p q (reached σ k) = run-next q σ (p k)
+-- some items and then others make of an outcome what the others make of what the first make of it
+printing-append : (xs ys : List Item) (o : Outcome) → printing (xs ++ ys) o ≡ printing ys (printing xs o)
+unfolding printing
+printing-append xs ys (full rs ts) = refl
+printing-append xs ys (reached σ) = all-append xs ys σ
 
 -- printing nothing leaves all as it is
-pub run-none : (o : Outcome) → run none o ≡ o
-unfolding run none finish emitAll
-run-none (halted e) = refl
-run-none full = refl
-run-none (reached σ k) = refl
-
--- ---- lists of items as printings
-
-pub says-nil : says [] ≡ none
-unfolding says none
-says-nil = refl
-
-pub says-append : (xs ys : List Item) → says (xs ++ ys) ≡ says xs ⨟ says ys
-unfolding says _⨟_
-says-append xs ys = refl
+printing-none : (o : Outcome) → printing [] o ≡ o
+unfolding printing emitAll
+printing-none (full rs ts) = refl
+printing-none (reached σ) = refl
 
 -- ---- printers' contracts
 
--- nothing printed
-pub idle : {o : Held} → Prints none o o
-idle = record { ran = sym (run-none _); sameRecords = refl; sameTexts = refl }
-
-infixr 40 _▸_
--- one printing after another
-pub _▸_ : {p q : Print} {o a b : Held} → Prints p o a → Prints q a b → Prints (p ⨟ q) o b
-_▸_ h k = record { ran = rw (run-seq, ← (h .ran)) (k .ran); sameRecords = k .sameRecords ∙ h .sameRecords; sameTexts = k .sameTexts ∙ h .sameTexts }
-
--- a printing by another name, as where a test picks it
-pub by : {p q : Print} {o a : Held} → p ≡ q → Prints q o a → Prints p o a
-by e h = rw e h
-
--- Printing that has stopped or is full.
-pub data Ended : Printed → Type 0 where
-  stops : (e : Element) → Ended (Stopped e)
-  fills : Ended Full
-
--- it stays where it is, whatever is printed
-pub passed : (q : Print) {rs ts : List ℕ} {p : Printed} → Ended p → Prints q (held rs ts p) (held rs ts p)
-unfolding run seen
-passed q (stops e) = record { ran = refl; sameRecords = refl; sameTexts = refl }
-passed q fills = record { ran = refl; sameRecords = refl; sameTexts = refl }
-
--- ---- printers of lists of items
-
--- one item
-pub said : (x : Item) {o a : Held} → Prints (say x) o a → Says (x ∷ []) o a
-unfolding says say
-said x h = record { prints = h }
-
 -- no items
 pub unsaid : {o : Held} → Says [] o o
-unsaid = record { prints = by says-nil idle }
+unsaid = record { ran = sym (printing-none _); sameRecords = refl; sameTexts = refl }
 
 infixr 40 _▸▸_
 -- some items, and then others
 pub _▸▸_ : {xs ys : List Item} {o a b : Held} → Says xs o a → Says ys a b → Says (xs ++ ys) o b
-_▸▸_ {xs} {ys} h k = record { prints = by (says-append xs ys) (h .prints ▸ k .prints) }
+_▸▸_ {xs} {ys} h k = record { ran = rw (printing-append xs ys, ← (h .ran)) (k .ran); sameRecords = k .sameRecords ∙ h .sameRecords; sameTexts = k .sameTexts ∙ h .sameTexts }
+
+-- the other arm of a `let Printed::Done(p) = r else`
+pub is-full : (r : Printed) → OneOf (1 ∷ []) (tagOf the-type r) → r ≡ Full
+is-full (Done p) h = absurd (omega arith)
+is-full Full h = refl
+
+-- printing that is full stays where it is, whatever is printed
+pub passed : (xs : List Item) {rs ts : List ℕ} {p : Printed} → p ≡ Full → Says xs (held rs ts p) (held rs ts p)
+unfolding printing seen
+passed xs h = rw h (record { ran = refl; sameRecords = refl; sameTexts = refl })
+
+-- a printer that is handed Full answers it, and changes no cell
+pub full-kept : {xs : List Item} {rs ts rs′ ts′ : List ℕ} {r : Printed} → Says xs (held rs ts Full) (held rs′ ts′ r) → (r ≡ Full) × ((rs′ ≡ rs) × (ts′ ≡ ts))
+unfolding printing seen
+full-kept {rs} {ts} {rs′} {ts′} {r} h = go r (h .ran)
+  where
+    go : (r : Printed) → seen rs′ ts′ r ≡ full rs ts → (r ≡ Full) × ((rs′ ≡ rs) × (ts′ ≡ ts))
+    go (Done p) k = absurd (let z : _≡_ {A = ℕ} 0 1 = cc in omega arith)
+    go Full k = (refl, (cc, cc))
 
 -- A loop that prints: whoever prints the rest ys from here has printed the whole xs.
 pub record Going (xs ys : List Item) (o a : Held) : Type 0 where

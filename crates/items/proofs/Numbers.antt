@@ -8,14 +8,15 @@ use lib.Dec.{ltb}
 use borrow.Author.Tests.{le-ltb, ltb-true}
 use Rattle.text.specs.Basic.{all, All, ∅, _▹_}
 use Rattle.text.proofs.Lists.{and-true}
-use Rattle.items.specs.declared.Count.{Count}
 use Rattle.items.specs.declared.Entry.{Entry}
 use Rattle.items.specs.declared.Printed.the-variants.{Done, Full}
+use Rattle.items.specs.declared.Printed.{Printed}
 use Rattle.items.specs.declared.Room.{Room}
 use Rattle.items.specs.declared.Room.the-variants.{Line, Nowhere}
-use Rattle.items.specs.Machine.{fit}
+use Rattle.items.specs.Machine.{fit, sizeAfter}
 use Rattle.items.proofs.Fits.{fit-true, fits-below}
-use Rattle.items.specs.Entry.{InRange, lineOf, grownBy, grownWith, roomFor, advanced}
+use Rattle.items.specs.declared.Size.{Size}
+use Rattle.items.specs.Entry.{InRange, lineOf, grownBy, storeEntry, roomFor, continued, recorded}
 
 -- the largest of n and the numbers after it
 abbrev most : ℕ → List ℕ → ℕ
@@ -49,57 +50,55 @@ beyond f s n h = omega arith
 pub largest : (l f s : ℕ) {k m : ℕ} → k ≡ max f s → m ≡ max l k → m ≡ max l (max f s)
 largest l f s h i = rw (i, h)
 
-module _ (e : Entry) (c : Count) where
+module _ (e : Entry) (p : Size) where
   abbrev line : ℕ
-  line = lineOf e c
+  line = lineOf e p
 
   -- the numbers after the first operand that must fit
   abbrev others : List ℕ
-  others = e .second ∷ (c .records + 1) ∷ (c .texts + e .bytes) ∷ (c .runs + e .runs) ∷ (c .marks + e .marks) ∷ (c .lines + line) ∷ []
+  others = e .second ∷ (p .records + 1) ∷ (p .texts + e .bytes) ∷ (p .lines + line) ∷ []
 
-  ranged : All (λ m. m < 2 ^ 32) (e .first ∷ others) → InRange line e c
-  ranged (f ▹ s ▹ r ▹ t ▹ k ▹ m ▹ l ▹ ∅) = record { first = f; second = s; records = r; texts = t; runs = k; marks = m; lines = l }
+  ranged : All (λ m. m < 2 ^ 32) (e .first ∷ others) → InRange line e p
+  ranged (f ▹ s ▹ r ▹ t ▹ l ▹ ∅) = record { first = f; second = s; after = record { records = r; texts = t; lines = l } }
 
   -- where its numbers fit, an entry is in range
-  pub in-range-of : fit (e .first ∷ others) ≡ true → InRange line e c
+  pub in-range-of : fit (e .first ∷ others) ≡ true → InRange line e p
   in-range-of h = ranged (fits-below _ h)
 
-  -- the largest of what an entry brings, and of the counts after it
+  -- the largest of what an entry brings, and of the size after it
   abbrev brought : ℕ
   brought = max (e .bytes) (max (e .first) (e .second))
 
-  abbrev counts : ℕ
-  counts = max (c .records + 1) (max (c .texts + e .bytes) (max (c .runs + e .runs) (max (c .marks + e .marks) (c .lines + line))))
+  abbrev grown : ℕ
+  grown = max (p .records + 1) (max (p .texts + e .bytes) (p .lines + line))
 
-  -- the counts compared one after another, from the last on
-  pub counts-are :
-      {l k m r n : ℕ} → l ≡ line → k ≡ max (c .marks + e .marks) (c .lines + l) → m ≡ max (c .runs + e .runs) k → r ≡ max (c .texts + e .bytes) m → n ≡ max (c .records + 1) r
-      → n ≡ counts
-  counts-are o h i j k = rw (k, j, i, h, o)
+  -- the size compared one after another, from the last on
+  pub grown-is : {l r n : ℕ} → l ≡ line → r ≡ max (p .texts + e .bytes) (p .lines + l) → n ≡ max (p .records + 1) r → n ≡ grown
+  grown-is o h i = rw (i, h, o)
 
-  no-room : 2 ^ 32 ≤ most (e .first) others → Nowhere ≡ roomFor e c
+  no-room : 2 ^ 32 ≤ most (e .first) others → Nowhere ≡ roomFor e p
   unfolding roomFor
   no-room h = rw (misfits (e .first) others h)
 
-  pub brought-full : {m : ℕ} → m ≡ brought → 2 ^ 32 ≤ m → Nowhere ≡ roomFor e c
-  brought-full q h = no-room (over (e .bytes) (e .first) (e .second) _ (c .texts + e .bytes) _ (rw q at h) (omega arith))
+  pub brought-full : {m : ℕ} → m ≡ brought → 2 ^ 32 ≤ m → Nowhere ≡ roomFor e p
+  brought-full q h = no-room (over (e .bytes) (e .first) (e .second) _ (p .texts + e .bytes) _ (rw q at h) (omega arith))
 
-  pub counts-full : {m : ℕ} → m ≡ counts → 2 ^ 32 ≤ m → Nowhere ≡ roomFor e c
-  counts-full q h = no-room (beyond (e .first) (e .second) counts (rw q at h))
+  pub grown-full : {m : ℕ} → m ≡ grown → 2 ^ 32 ≤ m → Nowhere ≡ roomFor e p
+  grown-full q h = no-room (beyond (e .first) (e .second) grown (rw q at h))
 
-  pub room-line : {l m n : ℕ} → l ≡ line → m ≡ brought → m < 2 ^ 32 → n ≡ counts → n < 2 ^ 32 → Line l ≡ roomFor e c
+  pub room-line : {l m n : ℕ} → l ≡ line → m ≡ brought → m < 2 ^ 32 → n ≡ grown → n < 2 ^ 32 → Line l ≡ roomFor e p
   unfolding roomFor
-  room-line o p g q h = rw (o, fit-true (below (e .first) others (under (e .bytes) (e .first) (e .second) counts (rw p at g) (rw q at h))))
+  room-line o f g q h = rw (o, fit-true (below (e .first) others (under (e .bytes) (e .first) (e .second) grown (rw f at g) (rw q at h))))
 
   -- what the room for an entry says
-  module _ (r : Room) (is : r ≡ roomFor e c) where
-    pub nowhere-full : r ≡ Nowhere → Full ≡ advanced e c
-    unfolding roomFor advanced
-    nowhere-full h = go (fit (e .first ∷ others)) is
+  module _ (r : Room) (is : r ≡ roomFor e p) where
+    pub nowhere : {o : Printed} (rs : List ℕ) → o ≡ Done p → r ≡ Nowhere → (Full ≡ continued e o) × (rs ≡ recorded e o rs)
+    unfolding roomFor continued recorded
+    nowhere rs known h = rw known (go (fit (e .first ∷ others)) is)
       where
-        go : (t : Bool) → r ≡ cond t (Line line) Nowhere → Full ≡ cond t (Done (grownBy e c)) Full
+        go : (t : Bool) → r ≡ cond t (Line line) Nowhere → (Full ≡ cond t (Done (grownBy e p)) Full) × (rs ≡ cond t (storeEntry e p rs) rs)
         go true k = let z : _≡_ {A = ℕ} 0 1 = cc in absurd (omega arith)
-        go false k = refl
+        go false k = (refl, refl)
 
     module _ (l : ℕ) (h : r ≡ Line l) where
       fitted : (l ≡ line) × (fit (e .first ∷ others) ≡ true)
@@ -107,12 +106,12 @@ module _ (e : Entry) (c : Count) where
       fitted = go (fit (e .first ∷ others)) refl is
         where
           go : (t : Bool) → fit (e .first ∷ others) ≡ t → r ≡ cond t (Line line) Nowhere → (l ≡ line) × (fit (e .first ∷ others) ≡ true)
-          go true p k = (cc, p)
-          go false p k = let z : _≡_ {A = ℕ} 0 1 = cc in absurd (omega arith)
+          go true q k = (cc, q)
+          go false q k = let z : _≡_ {A = ℕ} 0 1 = cc in absurd (omega arith)
 
-      pub in-range : InRange l e c
+      pub in-range : InRange l e p
       in-range = rw (fitted .0) (in-range-of (fitted .1))
 
-      pub goes-on : (d : Count) → d ≡ grownWith l e c → Done d ≡ advanced e c
-      unfolding advanced
-      goes-on d g = rw (g, fitted .0, fitted .1)
+      pub goes-on : {o : Printed} {d : Size} (rs : List ℕ) {rs′ : List ℕ} → o ≡ Done p → d ≡ sizeAfter (e .bytes) l p → rs′ ≡ storeEntry e p rs → (Done d ≡ continued e o) × (rs′ ≡ recorded e o rs)
+      unfolding continued recorded
+      goes-on rs known g k = rw (known, g, k, fitted .0, fitted .1) (refl, refl)

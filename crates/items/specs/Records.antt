@@ -8,7 +8,6 @@ use lib.ListN.{length, drop, take}
 use Rattle.items.specs.declared.Count.{Count}
 use Rattle.items.specs.Item.{always, lines, Item, signal, text, newline, spaceOrNewline, tab, indent, outdent, mark, group, groupEnd, block, blockEnd, run, runEnd, again, ifTest, elseItem, endIf, signalKind}
 use Rattle.items.specs.Role.{runsOf, marksOf}
-use Rattle.items.specs.Lines.{recordLines}
 
 -- 'Three u32 each': the words of a record
 abbrev pub recordSize : ℕ
@@ -55,13 +54,9 @@ unfoldable pub bytes : List Item → List ℕ
 bytes [] = []
 bytes (x ∷ xs) = bytesOf x ++ bytes xs
 
--- 'all of them, the bytes of their texts, the `run`s, the `mark`s'; and the bytes of the lines that list them
-abbrev pub Counts : Type 0
-Counts = Count
-
--- the counts of a list of items
-abbrev pub countsOf : List Item → Counts
-countsOf xs = record { records = length xs; texts = length (bytes xs); runs = runsOf xs; marks = marksOf xs; lines = length (recordLines 0 xs) }
+-- the counts of items: 'all of them, the bytes of their texts, the `run`s, the `mark`s'
+abbrev pub countsOf : List Item → Count
+countsOf xs = record { records = length xs; texts = length (bytes xs); runs = runsOf xs; marks = marksOf xs }
 
 -- a lent buffer after a call that writes xs: it begins with xs and goes on as it was
 abbrev pub overlaid : List ℕ → List ℕ → List ℕ

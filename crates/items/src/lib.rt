@@ -2,39 +2,36 @@
 pub mod lines;
 pub mod names;
 
-use numbers::Element;
 use numbers::Mark;
 ghost use mathlib.Core.Path.{_≡_};
-ghost use mathlib.Core.Bool.{true, false, cond};
+ghost use mathlib.Core.Bool.{true, cond};
 ghost use mathlib.Core.List.{[], _∷_};
 ghost use Prim.Native.Nat.{max, _+_, _<_, _≤_, _^_};
 ghost use lib.ListN.{length, set};
-ghost use Rattle.items.specs.Item.{say, plainItem, text, signal, signalKind};
-ghost use Rattle.items.specs.Machine.{PrintsIn, PutsIn, allFit, countsAt, sized, store, storeRecord, noCounts, noSize};
-ghost use Rattle.items.specs.Entry.{Emitted, InRange, RoomAfter, entryOf, grownWith, plainEntry, roomFor, sizeAfter, storeEntry};
+ghost use Rattle.items.specs.Item.{plainItem, text, signal, signalKind};
+ghost use Rattle.items.specs.Machine.{SaysIn, PutsIn, allFit, sized, sizeAfter, store, storeRecord, noSize};
+ghost use Rattle.items.specs.Entry.{InRange, RoomAfter, entryOf, plainEntry, textEntry, roomFor, continued, recorded, storeEntry};
 ghost use Rattle.items.specs.Names.{lineLength};
-ghost use Rattle.items.specs.declared.Printed.the-variants.{Done};
 
-// What was printed so far: records, bytes of their texts, runs and marks, and bytes of the lines that list the records.
+// What was printed: records, bytes of their texts, runs and marks.
 pub struct Count {
     pub records: u32,
     pub texts: u32,
     pub runs: u32,
     pub marks: u32,
-    pub lines: u32,
 }
 
-// How much is put: records, bytes of their texts and, where they are counted, of the lines that list the records.
+// How much is put: records, bytes of their texts and, where the records are listed, of the lines that list them.
 pub struct Size {
     pub records: u32,
     pub texts: u32,
     pub lines: u32,
+    pub listed: bool,
 }
 
-// How far printing has come. It is full where a count or an operand would no longer fit 32 bits.
+// How far printing has come. It is full where a number of the size or an operand would no longer fit 32 bits.
 pub enum Printed {
-    Done(Count),
-    Stopped(Element),
+    Done(Size),
     Full,
 }
 
@@ -106,55 +103,42 @@ const LINES: u64 = 1;
 // Numbers from here on do not fit 32 bits.
 const LIMIT: u64 = 0x1_0000_0000;
 
-// A record, and what it adds to the counts of text bytes, runs and marks.
+// A record, and the bytes of its text.
 struct Entry {
     kind: u32,
     first: u64,
     second: u64,
     bytes: u64,
-    runs: u32,
-    marks: u32,
 }
 
-// Room for a record whose line has so many bytes, or none where a count or an operand does not fit.
+// Room for a record whose line counts so many bytes, or none where a number does not fit.
 enum Room {
     Line(u32),
     Nowhere,
 }
 
-// A record with no text that is neither a run nor a mark.
+// A record with no text.
 fn plain(kind: u32, first: u64, second: u64) -> Entry
     ensures { λ r. ⌜ r ≡ plainEntry kind first second ⌝ }
 {
     Entry {
-        kind: kind,
-        first: first,
-        second: second,
+        kind,
+        first,
+        second,
         bytes: 0,
-        runs: 0,
-        marks: 0,
     }
 }
 
 // A text of so many bytes at an offset.
 fn text_entry(at: u32, bytes: usize) -> Entry
-    ensures { λ r. ⌜ r ≡ record { kind = 1; first = at; second = bytes; bytes = bytes; runs = 0; marks = 0 } ⌝ }
+    ensures { λ r. ⌜ r ≡ textEntry at bytes ⌝ }
 {
     Entry {
         kind: TEXT,
         first: at as u64,
         second: bytes as u64,
         bytes: bytes as u64,
-        runs: 0,
-        marks: 0,
     }
-}
-
-// 1 where it is so.
-fn one_if(b: bool) -> u32
-    ensures { λ r. ⌜ r ≡ cond b 1 0 ⌝ }
-{
-    if b { 1 } else { 0 }
 }
 
 // The number where it is so, else 0.
@@ -173,14 +157,7 @@ fn plain_entry(kind: u32, n: u32) -> Entry
     if kind == IF_LINES {
         return plain(IF, LINES, n as u64);
     }
-    Entry {
-        kind: kind,
-        first: number_if(lines::has_number(kind), n),
-        second: 0,
-        bytes: 0,
-        runs: one_if(kind == RUN),
-        marks: one_if(kind == MARK),
-    }
+    plain(kind, number_if(lines::has_number(kind), n), 0)
 }
 
 // Stores w at place at, if there is room.
@@ -246,80 +223,6 @@ fn larger(a: u64, b: u64) -> u64
     if a < b { b } else { a }
 }
 
-// The counts after a record whose line has so many bytes.
-fn counted(c: Count, e: Entry, line: u32) -> Count
-    requires { ⌜ InRange line e c ⌝ }
-    ensures { λ r. ⌜ r ≡ grownWith line e c ⌝ }
-{
-    Count {
-        records: c.records + 1,
-        texts: c.texts + e.bytes as u32,
-        runs: c.runs + e.runs,
-        marks: c.marks + e.marks,
-        lines: c.lines + line,
-    }
-}
-
-// Stores a record, and gives the counts after it.
-fn put_counted(records: &mut [u32], c: Count, e: Entry, line: u32) -> Count
-    requires { ⌜ InRange line e c ⌝ }
-    ensures { λ r. ⌜ (r ≡ grownWith line e c) × (now (records .exit) ≡ storeEntry e c (now (records .entry))) ⌝ }
-{
-    put_record(records, c.records, e.kind, e.first as u32, e.second as u32);
-    counted(c, e, line)
-}
-
-// Stores a record, and advances the counts that are lent. It is thin: the checker covers no reference to a struct, so this
-// function and the next are proved by walks of their operations.
-fn emit_record(records: &mut [u32], c: &mut Count, e: Entry, line: u32)
-    requires { ⌜ InRange line e (now c) ⌝ }
-    ensures { λ _. ⌜ (now (c .exit) ≡ grownWith line e (now (c .entry))) × (now (records .exit) ≡ storeEntry e (now (c .entry)) (now (records .entry))) ⌝ }
-{
-    *c = put_counted(records, *c, e, line);
-}
-
-// Lends the counts for a record, and gives them back: whoever calls this lends none and needs no walk.
-fn emit_on(records: &mut [u32], mut c: Count, e: Entry, line: u32) -> Count
-    requires { ⌜ InRange line e c ⌝ }
-    ensures { λ r. ⌜ (r ≡ grownWith line e c) × (now (records .exit) ≡ storeEntry e c (now (records .entry))) ⌝ }
-{
-    emit_record(records, &mut c, e, line);
-    c
-}
-
-// Whether the operands of a record and the counts after it fit.
-fn fitting(e: Entry, c: Count) -> Room
-    ensures { λ r. ⌜ r ≡ roomFor e c ⌝ }
-{
-    if LIMIT <= larger(e.bytes, larger(e.first, e.second)) {
-        return Room::Nowhere;
-    }
-    let records = c.records as u64 + 1;
-    let texts = c.texts as u64 + e.bytes;
-    let runs = c.runs as u64 + e.runs as u64;
-    let marks = c.marks as u64 + e.marks as u64;
-    let line = lines::line_length(c.records, e.kind, e.first as u32, e.second as u32);
-    let lines = c.lines as u64 + line;
-    if LIMIT <= larger(records, larger(texts, larger(runs, larger(marks, lines)))) {
-        return Room::Nowhere;
-    }
-    Room::Line(line as u32)
-}
-
-// The one place that emits: counts a record and stores it, if the counts still fit.
-fn emit(records: &mut [u32], e: Entry, p: Printed) -> Printed
-    ensures { λ r. ⌜ Emitted e (now (records .entry)) p (now (records .exit)) r ⌝ }
-{
-    let Printed::Done(c) = p else {
-        return p;
-    };
-    let room = fitting(e, c);
-    let Room::Line(line) = room else {
-        return Printed::Full;
-    };
-    Printed::Done(emit_on(records, c, e, line))
-}
-
 // The size after one record more, with so many bytes of text and of its line.
 fn after(p: Size, bytes: u32, line: u32) -> Size
     requires { ⌜ RoomAfter bytes line p ⌝ }
@@ -329,6 +232,7 @@ fn after(p: Size, bytes: u32, line: u32) -> Size
         records: p.records + 1,
         texts: p.texts + bytes,
         lines: p.lines + line,
+        listed: p.listed,
     }
 }
 
@@ -350,102 +254,128 @@ fn advanced(mut p: Size, bytes: u32, line: u32) -> Size
     p
 }
 
+// Stores a record at the end, and gives the size after it. Its numbers must fit.
+fn put_entry(records: &mut [u32], p: Size, e: Entry, line: u32) -> Size
+    requires { ⌜ InRange line e p ⌝ }
+    ensures { λ r. ⌜ r ≡ sizeAfter (e .bytes) line p ⌝ }
+    ensures { λ _. ⌜ now (records .exit) ≡ storeEntry e p (now (records .entry)) ⌝ }
+{
+    put_record(records, p.records, e.kind, e.first as u32, e.second as u32);
+    advanced(p, e.bytes as u32, line)
+}
+
+// The bytes of a record's line, where records are listed.
+fn line_if(listed: bool, n: u32, kind: u32, first: u32, second: u32) -> u64
+    ensures { λ r. ⌜ r ≡ cond listed (lineLength n kind first second) 0 ⌝ }
+{
+    if !listed {
+        return 0;
+    }
+    lines::line_length(n, kind, first, second)
+}
+
 // Puts a text, also one of no bytes, behind what was put. Its numbers must fit.
 pub fn put_text(records: &mut [u32], texts: &mut [u8], s: &[u8], p: Size) -> Size
-    requires { ⌜ allFit (text (now s) ∷ []) (countsAt p) ≡ true ⌝ }
-    ensures { λ r. ⌜ PutsIn records texts false p r (text (now (s .entry)) ∷ []) ⌝ }
+    requires { ⌜ allFit (text (now s) ∷ []) p ≡ true ⌝ }
+    ensures { λ r. ⌜ PutsIn records texts p r (text (now (s .entry)) ∷ []) ⌝ }
 {
-    let bytes = s.len() as u32;
+    let e = text_entry(p.texts, s.len());
+    let line = line_if(p.listed, p.records, TEXT, p.texts, s.len() as u32);
     put_bytes(texts, p.texts as usize, s);
-    put_record(records, p.records, TEXT, p.texts, bytes);
-    advanced(p, bytes, 0)
+    put_entry(records, p, e, line as u32)
 }
 
 // Puts an item without a text, by its kind and its number. Its numbers must fit.
 pub fn put_plain(records: &mut [u32], texts: &mut [u8], kind: u32, n: u32, p: Size) -> Size
     requires { ⌜ 2 ≤ kind ⌝ }
     requires { ⌜ kind ≤ 18 ⌝ }
-    requires { ⌜ allFit (plainItem kind n ∷ []) (countsAt p) ≡ true ⌝ }
-    ensures { λ r. ⌜ PutsIn records texts false p r (plainItem kind n ∷ []) ⌝ }
+    requires { ⌜ allFit (plainItem kind n ∷ []) p ≡ true ⌝ }
+    ensures { λ r. ⌜ PutsIn records texts p r (plainItem kind n ∷ []) ⌝ }
 {
     let e = plain_entry(kind, n);
-    put_record(records, p.records, e.kind, e.first as u32, e.second as u32);
-    advanced(p, 0, 0)
+    let line = line_if(p.listed, p.records, e.kind, e.first as u32, e.second as u32);
+    put_entry(records, p, e, line as u32)
 }
 
-// The bytes of a record's line, where lines are counted.
-fn line_if(listed: bool, n: u32, kind: u32, first: u32, second: u32) -> u32
-    requires { ⌜ lineLength n kind first second < 2 ^ 32 ⌝ }
-    ensures { λ r. ⌜ r ≡ cond listed (lineLength n kind first second) 0 ⌝ }
-{
-    if !listed {
-        return 0;
-    }
-    lines::line_length(n, kind, first, second) as u32
-}
-
-// The size after a text, with its line where lines are counted. Its numbers must fit.
-pub fn count_text(s: &[u8], listed: bool, p: Size) -> Size
-    requires { ⌜ allFit (text (now s) ∷ []) (countsAt p) ≡ true ⌝ }
-    ensures { λ r. ⌜ r ≡ sized listed (text (now (s .entry)) ∷ []) p ⌝ }
+// The size after a text. Its numbers must fit.
+pub fn count_text(s: &[u8], p: Size) -> Size
+    requires { ⌜ allFit (text (now s) ∷ []) p ≡ true ⌝ }
+    ensures { λ r. ⌜ r ≡ sized (text (now (s .entry)) ∷ []) p ⌝ }
 {
     let bytes = s.len() as u32;
-    let line = line_if(listed, p.records, TEXT, p.texts, bytes);
-    advanced(p, bytes, line)
+    let line = line_if(p.listed, p.records, TEXT, p.texts, bytes);
+    advanced(p, bytes, line as u32)
 }
 
-// The size after an item without a text, with its line where lines are counted. Its numbers must fit.
-pub fn count_plain(kind: u32, n: u32, listed: bool, p: Size) -> Size
+// The size after an item without a text. Its numbers must fit.
+pub fn count_plain(kind: u32, n: u32, p: Size) -> Size
     requires { ⌜ 2 ≤ kind ⌝ }
     requires { ⌜ kind ≤ 18 ⌝ }
-    requires { ⌜ allFit (plainItem kind n ∷ []) (countsAt p) ≡ true ⌝ }
-    ensures { λ r. ⌜ r ≡ sized listed (plainItem kind n ∷ []) p ⌝ }
+    requires { ⌜ allFit (plainItem kind n ∷ []) p ≡ true ⌝ }
+    ensures { λ r. ⌜ r ≡ sized (plainItem kind n ∷ []) p ⌝ }
 {
     let e = plain_entry(kind, n);
-    let line = line_if(listed, p.records, e.kind, e.first as u32, e.second as u32);
-    advanced(p, 0, line)
+    let line = line_if(p.listed, p.records, e.kind, e.first as u32, e.second as u32);
+    advanced(p, 0, line as u32)
 }
 
-// The counts that have a size, with no run and no mark.
-pub fn counts_at(p: Size) -> Count
-    ensures { λ r. ⌜ r ≡ countsAt p ⌝ }
-{
-    Count {
-        records: p.records,
-        texts: p.texts,
-        runs: 0,
-        marks: 0,
-        lines: p.lines,
-    }
-}
-
-// Nothing is put yet.
-pub fn no_size() -> Size
-    ensures { λ r. ⌜ r ≡ noSize ⌝ }
+// Nothing is put yet, of records that are to be listed or not.
+pub fn no_size(listed: bool) -> Size
+    ensures { λ r. ⌜ r ≡ noSize listed ⌝ }
 {
     Size {
         records: 0,
         texts: 0,
         lines: 0,
+        listed,
     }
 }
 
-// Nothing is printed yet.
-pub fn start() -> Printed
-    ensures { λ r. ⌜ r ≡ Done noCounts ⌝ }
+// Whether the operands of a record and the size after it fit.
+fn fitting(e: Entry, p: Size) -> Room
+    ensures { λ r. ⌜ r ≡ roomFor e p ⌝ }
 {
-    Printed::Done(counts_at(no_size()))
+    if LIMIT <= larger(e.bytes, larger(e.first, e.second)) {
+        return Room::Nowhere;
+    }
+    let records = p.records as u64 + 1;
+    let texts = p.texts as u64 + e.bytes;
+    let line = line_if(p.listed, p.records, e.kind, e.first as u32, e.second as u32);
+    let lines = p.lines as u64 + line;
+    if LIMIT <= larger(records, larger(texts, lines)) {
+        return Room::Nowhere;
+    }
+    Room::Line(line as u32)
 }
 
-// Prints a text, also one of no bytes.
-pub fn print_text(records: &mut [u32], texts: &mut [u8], s: &[u8], p: Printed) -> Printed
-    ensures { λ r. ⌜ PrintsIn records texts p r (say (text (now (s .entry)))) ⌝ }
+// The one place that asks: stores a record and counts it, if its numbers fit, and changes nothing if not.
+fn emit(records: &mut [u32], e: Entry, p: Printed) -> Printed
+    ensures { λ r. ⌜ r ≡ continued e p ⌝ }
+    ensures { λ _. ⌜ now (records .exit) ≡ recorded e p (now (records .entry)) ⌝ }
 {
-    let Printed::Done(c) = p else {
+    let Printed::Done(q) = p else {
         return p;
     };
-    put_bytes(texts, c.texts as usize, s);
-    emit(records, text_entry(c.texts, s.len()), p)
+    let room = fitting(e, q);
+    let Room::Line(line) = room else {
+        return Printed::Full;
+    };
+    Printed::Done(put_entry(records, q, e, line))
+}
+
+// Prints a text, also one of no bytes. It is stored once its record is: where that does not fit, nothing is.
+pub fn print_text(records: &mut [u32], texts: &mut [u8], s: &[u8], p: Printed) -> Printed
+    ensures { λ r. ⌜ SaysIn records texts p r (text (now (s .entry)) ∷ []) ⌝ }
+{
+    let Printed::Done(q) = p else {
+        return p;
+    };
+    let r = emit(records, text_entry(q.texts, s.len()), p);
+    let Printed::Done(_) = r else {
+        return r;
+    };
+    put_bytes(texts, q.texts as usize, s);
+    r
 }
 
 // The kind of an item without operands.
@@ -469,7 +399,7 @@ pub fn signal_kind(s: Signal) -> u32
 
 // Prints an item without operands.
 pub fn print_signal(records: &mut [u32], texts: &mut [u8], s: Signal, p: Printed) -> Printed
-    ensures { λ r. ⌜ PrintsIn records texts p r (say (signal s)) ⌝ }
+    ensures { λ r. ⌜ SaysIn records texts p r (signal s ∷ []) ⌝ }
 {
     emit(records, plain(signal_kind(s), 0, 0), p)
 }

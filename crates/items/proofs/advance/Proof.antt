@@ -39,7 +39,8 @@ use denote.Triple.Table.{entered, cited}
 use denote.Triple.Walked.{says, needs, Stays, stay-ref, stay-none, walkOf, goes-none, goes-ref, Walks, ends-at, walked, walk-meets}
 use denote.Exit.{yes}
 use Rattle.items.specs.declared.Size.{Size}
-use Rattle.items.specs.Entry.{RoomAfter, sizeAfter}
+use Rattle.items.specs.Entry.{RoomAfter}
+use Rattle.items.specs.Machine.{sizeAfter}
 use Rattle.items.proofs.Lent.{Z, size, Words, size-typed, size-owned, words-owned}
 use Rattle.items.proofs.Size as T
 use Rattle.items.proofs.Size.Laws as T′

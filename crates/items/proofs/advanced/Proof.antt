@@ -41,7 +41,8 @@ use denote.Triple.Walked.{says, needs, Stays, stay-none, walkOf, goes-none, Walk
 use denote.Exit.{yes}
 use borrow.Table.OneValue.{part-out, part-in}
 use Rattle.items.specs.declared.Size.{Size}
-use Rattle.items.specs.Entry.{RoomAfter, sizeAfter}
+use Rattle.items.specs.Entry.{RoomAfter}
+use Rattle.items.specs.Machine.{sizeAfter}
 use Rattle.items.proofs.Lent.{Z, size, Words, size-typed, size-owned, words-owned}
 use Rattle.items.proofs.Size as T
 use Rattle.items.proofs.Size.Laws as T′

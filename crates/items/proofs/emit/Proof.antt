@@ -1,32 +1,34 @@
+use Rattle.items.proofs.Laws.{is-full}
+use Rattle.items.proofs.Emits.{stays-full}
+use Rattle.items.proofs.Numbers.{nowhere, in-range, goes-on}
 use borrow.Author.Needs.{needs}
-use Rattle.items.proofs.Laws.{fills}
-use Rattle.items.proofs.Emits.{ended, emit-ended, emit-full, emit-done}
-use Rattle.items.proofs.Numbers.{nowhere-full, in-range, goes-on}
 use Rattle.items.proofs.emit.Statement.{statement}
 use Rattle.items.proofs.emit.Tie as tie
 
 returns-2 : tie.Need-returns-2
 returns-2 c =
     let f = c .before .before in
-    emit-full _ _ _ _ _ (f .before .before .p .given .1) (nowhere-full _ _ _ (f .fitting .ensures) (c .enum-told .given .1)) fills
+    nowhere _ _ _ (f .fitting .ensures) _ (f .before .before .p .given .1) (c .enum-told2 .given .1)
 
 returns-3 : tie.Need-returns-3
 returns-3 c =
     let w = c .before .before in
-    let f = w .before .before .before .before .before in
-    emit-done _ _ _ _ _ (f .before .before .p .given .1) (goes-on _ _ _ (f .fitting .ensures) _ (w .before .before .before .room .given .1) _ (w .emit-on .ensures .0)) _ (w .emit-on .ensures .1)
+    let r = w .before .before .before in
+    let f = r .before .before in
+    goes-on _ _ _ (f .fitting .ensures) _ (r .room .given .1) _ (f .before .before .p .given .1) (w .put-entry .ensures .0) (w .put-entry .ensures .1)
 
 pub emit-spec : {M : Type 1} → statement M
 emit-spec =
     tie.close
     (tie.spec
     (λ c. search needs)  -- enum-known-p
-    (λ c. emit-ended _ _ _ (ended _ (c .match .keys2)))  -- returns
+    (λ c. search needs)  -- enum-told
+    (λ c. stays-full _ _ (c .enum-told .given .1))  -- returns
     (λ c κs. search needs)  -- fitting-requires
     (λ c. search needs)  -- enum-known-room
-    (λ c. search needs)  -- enum-told
+    (λ c. search needs)  -- enum-told-2
     returns-2  -- returns-2
-    (λ c κs. search in-range)  -- emit-on-requires
+    (λ c κs. let r = c .before .before in let f = r .before .before in in-range _ _ _ (f .fitting .ensures) _ (r .room .given .1))  -- put-entry-requires
     (λ c. search needs)  -- same-length
     returns-3  -- returns-3
     )

@@ -9,6 +9,5 @@ line-if-spec =
     (tie.spec
     (λ c. line-left (c .before .args .listed) _ (c .if1 .taken))  -- returns
     (λ c κs. search needs)  -- line-length-requires
-    (λ c. search needs)  -- cast-result
     (λ c. line-taken (c .before .before .args .listed) (c .before .if1 .left) (c .line-length .ensures))  -- returns-2
     )

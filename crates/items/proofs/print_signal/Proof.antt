@@ -1,5 +1,5 @@
+use Rattle.items.proofs.Emits.{signal-shown}
 use borrow.Author.Needs.{needs}
-use Rattle.items.proofs.Emits.{said, signal-textless}
 use Rattle.items.proofs.print_signal.Statement.{statement}
 use Rattle.items.proofs.print_signal.Tie as tie
 
@@ -11,5 +11,5 @@ print-signal-spec =
     (λ c κs. search needs)  -- plain-requires
     (λ c κs. search needs)  -- emit-requires
     (λ c. search needs)  -- same-length
-    (λ c. said _ _ _ _ _ _ _ _ (c .before .before .emit .ensures) (signal-textless (c .before .before .before .before .before .before .before .before .args .s)) (cc) (search needs))  -- returns
+    (λ c. let e = c .before .before in signal-shown (e .before .before .before .before .before .before .args .s) (e .before .before .signal-kind .ensures) (e .before .plain .ensures) (e .emit .ensures .0) (e .emit .ensures .1) (search needs))  -- returns
     )
