@@ -1,5 +1,5 @@
 // Tokens of about 32,000 bytes, made from a recipe: a head, a piece that comes so many times, and a tail.
-use crate::replay::counts_agree;
+use crate::replay::sizes_agree;
 use cases::Agreement;
 use cases::behind;
 use cases::behind_fields;
@@ -11,7 +11,8 @@ use cases::number32;
 use cases::put_all;
 use cases::word;
 use comments::CommentLocation;
-use items::Count;
+use items::Size;
+use items::no_size;
 use items::Printed;
 use items::RECORD;
 
@@ -55,7 +56,7 @@ fn mixed_bytes(texts: &[u8], sum: u64) -> u64 {
 }
 
 // A checksum over the words of the records and the bytes of the texts that `c` counts.
-fn checksum(records: &[u32], texts: &[u8], c: Count) -> u64 {
+fn checksum(records: &[u32], texts: &[u8], c: Size) -> u64 {
     let sum = mixed_words(records, RECORD * (c.records as usize), 0);
     mixed_bytes(front(texts, c.texts as usize), sum)
 }
@@ -69,13 +70,13 @@ fn agrees_at(
     loc: CommentLocation,
     want: &[u8],
 ) -> bool {
-    let p = comments::format_comment(records, texts, kind, s, loc, items::start());
+    let p = comments::format_comment(records, texts, kind, s, loc, Printed::Done(no_size(false)));
     let Printed::Done(c) = p else {
         return false;
     };
     let sizes = (c.records == number32(want)) & (c.texts == number32(behind(want, TEXTS)));
     let sum = checksum(records, texts, c) == number32(behind(want, SUM)) as u64;
-    sizes & sum & counts_agree(kind, s, loc, c)
+    sizes & sum & sizes_agree(kind, s, loc, c)
 }
 
 // A token at its three places. At the end of items it prints what it prints above an item.

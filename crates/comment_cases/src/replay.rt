@@ -8,7 +8,8 @@ use cases::nth_field;
 use cases::number;
 use cases::word;
 use comments::CommentLocation;
-use items::Count;
+use items::Size;
+use items::no_size;
 use items::Printed;
 use items::RECORD;
 ghost use Prim.Native.Nat.{_-_, _≤_};
@@ -69,7 +70,7 @@ fn item_agrees(records: &[u32], texts: &[u8], n: u32, offset: u32, want: &[u8]) 
 }
 
 // The records are the items of `want`, no fewer and no more.
-fn items_agree(records: &[u32], texts: &[u8], c: Count, want: &[u8]) -> bool {
+fn items_agree(records: &[u32], texts: &[u8], c: Size, want: &[u8]) -> bool {
     let mut n: u32 = 0;
     let mut offset: u32 = 0;
     let mut rest = want;
@@ -90,17 +91,16 @@ fn items_agree(records: &[u32], texts: &[u8], c: Count, want: &[u8]) -> bool {
 fn counted(kind: u32, s: &[u8], loc: CommentLocation) -> Printed {
     let mut records = [0u32; 0];
     let mut texts = [0u8; 0];
-    comments::format_comment(&mut records, &mut texts, kind, s, loc, items::start())
+    comments::format_comment(&mut records, &mut texts, kind, s, loc, Printed::Done(no_size(false)))
 }
 
-// Counting alone gives these counts, and no runs and no marks.
-pub fn counts_agree(kind: u32, s: &[u8], loc: CommentLocation, c: Count) -> bool {
+// Counting alone gives this size.
+pub fn sizes_agree(kind: u32, s: &[u8], loc: CommentLocation, c: Size) -> bool {
     let p = counted(kind, s, loc);
     let Printed::Done(d) = p else {
         return false;
     };
-    let sizes = (d.records == c.records) & (d.texts == c.texts);
-    sizes & (c.runs == 0) & (d.runs == 0) & (c.marks == 0) & (d.marks == 0)
+    (d.records == c.records) & (d.texts == c.texts)
 }
 
 // A token at one place prints these items.
@@ -112,11 +112,11 @@ fn agrees_at(
     loc: CommentLocation,
     want: &[u8],
 ) -> bool {
-    let p = comments::format_comment(records, texts, kind, s, loc, items::start());
+    let p = comments::format_comment(records, texts, kind, s, loc, Printed::Done(no_size(false)));
     let Printed::Done(c) = p else {
         return false;
     };
-    items_agree(records, texts, c, want) & counts_agree(kind, s, loc, c)
+    items_agree(records, texts, c, want) & sizes_agree(kind, s, loc, c)
 }
 
 // A token at its three places. At the end of items it prints what it prints above an item.

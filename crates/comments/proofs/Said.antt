@@ -13,9 +13,9 @@ use Rattle.text.specs.Basic.{ascii, isNil, firstOr, all, dropWhile, dropEnd, st
 use Rattle.text.proofs.BlankLines.{drops-commute, dropEnd-twice, blank-lines, kept-lines, first-kept}
 use Rattle.text.specs.Text.{lines, lineEnd, padding, trimEnd}
 use Rattle.text.proofs.Lists.{and-true}
-use Rattle.items.specs.Item.{Item, text, newline, tab, say}
-use Rattle.items.specs.Machine.{Held, Prints, Says}
-use Rattle.items.proofs.Laws.{said, unsaid, Going, going-none, going-more, going-all}
+use Rattle.items.specs.Item.{Item, text, newline, tab}
+use Rattle.items.specs.Machine.{Held, Says}
+use Rattle.items.proofs.Laws.{unsaid, Going, going-none, going-more, going-all}
 use Rattle.comments.specs.Comments.{Location, aboveItem, itemInline, endOfItems, optional, singleLine, common, commonPadding, blockLines, immediate, unpadded, tabbed, oneLine, onOneLine, manyLines, blockOf, multiLine, errorItems, comment}
 use Rattle.comments.specs.Rows.{rows, FirstRow, isCut, Piece}
 use Rattle.comments.proofs.Walks.{row-step, rows-none}
@@ -25,20 +25,20 @@ pub same : {xs ys : List Item} {o a : Held} → xs ≡ ys → Says xs o a → Sa
 same e h = rw e at h
 
 -- a text by another name
-pub texts : {s t : List ℕ} {o a : Held} → s ≡ t → Prints (say (text s)) o a → Says (text t ∷ []) o a
-texts {s} e h = same (ap (λ (u : List ℕ). text u ∷ []) e) (said (text s) h)
+pub texts : {s t : List ℕ} {o a : Held} → s ≡ t → Says (text s ∷ []) o a → Says (text t ∷ []) o a
+texts e h = same (ap (λ (u : List ℕ). text u ∷ []) e) h
 
-pub opt-yes : (b : Bool) (x : Item) {o a : Held} → b ≡ true → Prints (say x) o a → Says (optional b x) o a
-opt-yes b x e h = rw e (said x h)
+pub opt-yes : (b : Bool) (x : Item) {o a : Held} → b ≡ true → Says (x ∷ []) o a → Says (optional b x) o a
+opt-yes b x e h = rw e h
 
 pub opt-no : (b : Bool) (x : Item) {o : Held} → b ≡ false → Says (optional b x) o o
 opt-no b x e = rw e unsaid
 
-pub pick-first : (b : Bool) (x y : Item) {o a : Held} → b ≡ true → Prints (say x) o a → Says (cond b x y ∷ []) o a
-pick-first b x y e h = rw e (said x h)
+pub pick-first : (b : Bool) (x y : Item) {o a : Held} → b ≡ true → Says (x ∷ []) o a → Says (cond b x y ∷ []) o a
+pick-first b x y e h = rw e h
 
-pub pick-second : (b : Bool) (x y : Item) {o a : Held} → b ≡ false → Prints (say y) o a → Says (cond b x y ∷ []) o a
-pick-second b x y e h = rw e (said y h)
+pub pick-second : (b : Bool) (x y : Item) {o a : Held} → b ≡ false → Says (y ∷ []) o a → Says (cond b x y ∷ []) o a
+pick-second b x y e h = rw e h
 
 -- a comment to the end of its line, by its rest
 pub single-rest : (opening : List ℕ) (loc : Location) {r t : List ℕ} {o a : Held} → r ≡ t → Says (singleLine opening r loc) o a → Says (singleLine opening t loc) o a
@@ -97,13 +97,13 @@ erring-more {s} {o} {a} {b} {at} {e} k f r h y q p =
     }
 
 module _ {s : List ℕ} {o a : Held} {at e : ℕ} (r : Erring s o a at e) (h : length s ≤ e) where
-  pub erring-last : {b : Held} → at < length s → Prints (say (text (take (length s - at) (drop at s)))) a b → Says (errorItems [] s) o b
+  pub erring-last : {b : Held} → at < length s → Says (text (take (length s - at) (drop at s)) ∷ []) a b → Says (errorItems [] s) o b
   erring-last l y =
       let n : length s ≡ e = omega (arith, r .piece) in
       let u = take (e - at) (drop at s) in
       let d : drop e s ≡ [] = drop-of-length-le s h in
       let g : errorItems [] (drop at s) ≡ text u ∷ [] = ap (errorItems []) (piece-split (r .piece)) ∙ pieces-plain [] u (drop e s) (r .piece .plain) ∙ ap (errorItems u) d ∙ pieces-end u (rw (length-take-le (e - at) (drop at s) (rw length-drop (omega arith))) (omega arith)) in
-      r .going .rest (same (sym g) (rw n at (said (text (take (length s - at) (drop at s))) y)))
+      r .going .rest (same (sym g) (rw n at y))
 
   pub erring-all : length s ≤ at → Says (errorItems [] s) o a
   unfolding errorItems
@@ -124,13 +124,13 @@ module _ {doc : Bool} {l : List ℕ} {o a b : Held} {i : ℕ} (t : Tabbing doc l
   unfolding tabbed
   tabbing-more h e y = record { upto = omega arith; going = going-more (t .going) (rw (add-one i, drop-cons l i 0 h, eq-eqb (getD l i 0) 9 e)) y }
 
-  pub tabbing-stop : i < length l → (getD l i 0 ≡ 9 → ⊥) → Prints (say (text (take (length l - i) (drop i l)))) a b → Says (tabbed doc l) o b
+  pub tabbing-stop : i < length l → (getD l i 0 ≡ 9 → ⊥) → Says (text (take (length l - i) (drop i l)) ∷ []) a b → Says (tabbed doc l) o b
   unfolding tabbed
   tabbing-stop h e y =
       let n = take-all (length l - i) (drop i l) (rw length-drop (omega arith)) in
       t .going .rest (same (rw (drop-cons l i 0 h, ne-eqb (getD l i 0) 9 e)) (texts n y))
 
-  pub tabbing-all : length l ≤ i → Prints (say (text (take (length l - i) (drop i l)))) a b → Says (tabbed doc l) o b
+  pub tabbing-all : length l ≤ i → Says (text (take (length l - i) (drop i l)) ∷ []) a b → Says (tabbed doc l) o b
   unfolding tabbed
   tabbing-all h y =
       let n = take-all (length l - i) (drop i l) (rw length-drop (omega arith)) in

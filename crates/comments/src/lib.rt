@@ -7,8 +7,7 @@ use items::Printed;
 use numbers::kind;
 ghost use mathlib.Core.Path.{_≡_};
 ghost use Rattle.text.specs.Basic.{isNil};
-ghost use Rattle.items.specs.Item.{says};
-ghost use Rattle.items.specs.Machine.{PrintsIn};
+ghost use Rattle.items.specs.Machine.{SaysIn};
 ghost use Rattle.comments.specs.Comments.{Location, inline, comment};
 ghost use Rattle.comments.specs.Place.{place};
 
@@ -41,7 +40,7 @@ pub fn format_comment(
     loc: CommentLocation,
     p: Printed,
 ) -> Printed
-    ensures { λ r. ⌜ PrintsIn records texts p r (says (comment kind (now (s .entry)) (place loc))) ⌝ }
+    ensures { λ r. ⌜ SaysIn records texts p r (comment kind (now (s .entry)) (place loc)) ⌝ }
 {
     match kind {
         kind::WHITESPACE => p,

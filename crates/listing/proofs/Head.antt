@@ -3,14 +3,14 @@ use mathlib.Core.Path.{_≡_}
 use Prim.Native.Nat.{ℕ, _+_, _≤_, _<_, _^_}
 use native.Mathlib.Omega.{arith}
 use lib.ListN.{length, length-append}
-use Rattle.items.specs.Records.{Counts}
+use Rattle.items.specs.declared.Count.{Count}
 use Rattle.items.specs.Lines.{field}
 use Rattle.items.specs.Names.{otherNames, namesOf, nameAt}
 use Rattle.items.proofs.Lengths.{field-short}
 use Rattle.items.specs.declared.names.Table.the-variants.{Others}
 use Rattle.listing.specs.Listing.{headLine}
 
-module _ (c : Counts) where
+module _ (c : Count) where
   -- its four fields and LF
   abbrev four : ℕ
   four = length (field (nameAt Others 1) (c .records)) + length (field (nameAt Others 2) (c .texts)) + length (field (nameAt Others 3) (c .runs)) + length (field (nameAt Others 4) (c .marks))

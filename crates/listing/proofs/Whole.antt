@@ -10,8 +10,9 @@ use lib.Dec.{eqb}
 use lib.ListN.{length, getD, drop, length-append, length-drop}
 use lib.Seq.{getD-drop, drop-drop}
 use borrow.Author.Tests.{eqb-true, eqb-false}
+use Rattle.items.specs.declared.Count.{Count}
 use Rattle.items.specs.Item.{Item}
-use Rattle.items.specs.Records.{Counts, itemOf, cons, decoded, recordSize}
+use Rattle.items.specs.Records.{itemOf, cons, decoded, recordSize}
 use Rattle.items.specs.Lines.{recordLines}
 use Rattle.listing.specs.Listing.{headLine, listing}
 use Rattle.listing.specs.Writes.{Room}
@@ -46,7 +47,7 @@ record Lists (rs ts : List ℕ) (i m : ℕ) (xs : List Item) : Type 0 where
   each : (j : ℕ) → i ≤ j → j < i + m → Line rs ts j
 
 -- What is known where the listing of told records is to be written.
-pub record Ready (rs ts : List ℕ) (c : Counts) : Type 0 where
+pub record Ready (rs ts : List ℕ) (c : Count) : Type 0 where
   pub each : (i : ℕ) → i < c .records → Line rs ts i
   pub whole : listing (itemsIn rs ts (c .records)) ≡ headLine c ++ linesFrom rs ts 0 (c .records)
   pub room : Room (headLine c ++ linesFrom rs ts 0 (c .records)) 0
@@ -82,14 +83,13 @@ module _ (rs ts : List ℕ) where
           let s = item-shows ts k a b x f in
           rw (← n) (one-more i m k a b ws x ys w s (more ys (rw t (w .rest)) g))
 
-  pub ready : (c : Counts) → Listable rs ts c → c .records < 2 ^ 32 → c .texts < 2 ^ 32 → c .runs < 2 ^ 32 → c .marks < 2 ^ 32 → c .lines < 2 ^ 32 → Ready rs ts c
+  pub ready : (c : Count) → Listable rs ts c → c .records < 2 ^ 32 → c .texts < 2 ^ 32 → c .runs < 2 ^ 32 → c .marks < 2 ^ 32 → Ready rs ts c
   unfolding listing
-  ready c t p q r s u =
+  ready c t p q r s =
       let xs = itemsIn rs ts (c .records) in
       let l = lists (c .records) 0 rs xs refl (t .decodes) in
-      let n : c .lines ≡ length (recordLines 0 xs) = ap (λ (d : Counts). d .lines) (t .counts) in
       record {
         each = λ i h. l .each i (omega arith) (omega arith);
         whole = rw (l .lines, ← (t .counts));
-        room = record { fits = rw (length-append (headLine c) (linesFrom rs ts 0 (c .records)), l .lines) (omega (arith, head-short c p q r s)) };
+        room = record { fits = rw (length-append (headLine c) (linesFrom rs ts 0 (c .records)), l .lines) (omega (arith, head-short c p q r s, t .fits)) };
       }

@@ -193,9 +193,9 @@ fn head_length(c: Count) -> u64
         + 1
 }
 
-// The length of the listing of items with these counts.
-pub fn listing_length(c: Count) -> usize
-    ensures { λ r. ⌜ r ≡ length (headLine c) + c .lines ⌝ }
+// The length of the listing of items with these counts, whose lines have so many bytes.
+pub fn listing_length(c: Count, lines: u32) -> usize
+    ensures { λ r. ⌜ r ≡ length (headLine c) + lines ⌝ }
 {
-    (head_length(c) + c.lines as u64) as usize
+    (head_length(c) + lines as u64) as usize
 }

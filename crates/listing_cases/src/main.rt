@@ -159,11 +159,16 @@ const EVERY_KIND: [u32; 57] = [
 // Their texts, `twelve bytes`.
 const TWELVE: [u8; 12] = [116, 119, 101, 108, 118, 101, 32, 98, 121, 116, 101, 115];
 
-// Writes a whole listing.
-fn print_listing(records: &[u32], texts: &[u8], c: Count)
+// The bytes of the lines of both.
+const LINES: u32 = 310;
+
+const EVERY_LINES: u32 = 236;
+
+// Writes a whole listing, whose lines have so many bytes.
+fn print_listing(records: &[u32], texts: &[u8], c: Count, lines: u32)
     requires { ⌜ Listable (now records) (now texts) c ⌝ }
 {
-    let n = listing::listing_length(c);
+    let n = listing::listing_length(c, lines);
     let mut out = io::buffer();
     listing::write_listing(records, texts, c, &mut out);
     io::write_all(STDOUT_FILENO, front(&out, n));
@@ -186,9 +191,8 @@ fn main() {
         texts: 5,
         runs: 1,
         marks: 2,
-        lines: 310,
     };
-    print_listing(&records, &texts, c);
+    print_listing(&records, &texts, c, LINES);
     let every = EVERY_KIND;
     let twelve = TWELVE;
     let d = Count {
@@ -196,8 +200,7 @@ fn main() {
         texts: 12,
         runs: 1,
         marks: 1,
-        lines: 236,
     };
-    print_listing(&every, &twelve, d);
+    print_listing(&every, &twelve, d, EVERY_LINES);
     print_beginning(&records, &texts, c);
 }

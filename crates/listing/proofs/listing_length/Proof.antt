@@ -9,7 +9,6 @@ listing-length-spec =
     tie.close
     (tie.spec
     (λ c κs. search needs)  -- head-length-requires
-    (λ c. search needs)  -- cast-result
-    (λ c. omega (arith, c .before .head-length .ensures, head-short (c .before .before .args .c) (omega arith) (omega arith) (omega arith) (omega arith)))  -- add-result
-    (λ c. omega (arith, c .before .head-length .ensures))  -- returns
+    (λ c. omega (arith, c .head-length .ensures, head-short (c .before .args .c) (omega arith) (omega arith) (omega arith) (omega arith)))  -- add-result
+    (λ c. omega (arith, c .head-length .ensures))  -- returns
     )

@@ -13,7 +13,7 @@ abbrev Entered : Type 0
 Entered = lts.After-slice-known (put-head-reads.Asked, put-head-reads.Learnt, put-lines-reads.Asked, put-lines-reads.Learnt) reads.Pre reads.Post
 
 entered : (c : Entered) → Ready (c .before .before .before .args .records .now) (c .before .before .before .args .texts .now) (c .before .before .before .args .c)
-entered c = let s = c .before .before .before in ready _ _ _ (s .pre) (omega arith) (omega arith) (omega arith) (omega arith) (omega arith)
+entered c = let s = c .before .before .before in ready _ _ _ (s .pre) (omega arith) (omega arith) (omega arith) (omega arith)
 
 returns : tie.Need-returns
 returns c =

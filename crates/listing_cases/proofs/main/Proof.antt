@@ -1,4 +1,5 @@
 use borrow.Author.Needs.{needs}
+use native.Mathlib.Omega.{arith}
 use mathlib.Core.Path.{refl}
 use Rattle.text.specs.Basic.{sum}
 use Rattle.items.specs.Lines.{kindNames, digits, decimal, described, recordLines}
@@ -16,12 +17,12 @@ main-spec =
     (tie.spec
     (λ c. search needs)  -- slice-aggregate-print-listing
     (λ c. search needs)  -- slice-aggregate-print-listing-2
-    (λ c κs. listable _ _ _ oneItems refl refl)  -- print-listing-requires
+    (λ c κs. listable _ _ _ oneItems refl refl (omega arith))  -- print-listing-requires
     (λ c. search needs)  -- slice-aggregate-print-listing-3
     (λ c. search needs)  -- slice-aggregate-print-listing-4
-    (λ c κs. listable _ _ _ everyItems refl refl)  -- print-listing-requires-2
+    (λ c κs. listable _ _ _ everyItems refl refl (omega arith))  -- print-listing-requires-2
     (λ c. search needs)  -- slice-aggregate-print-beginning
     (λ c. search needs)  -- slice-aggregate-print-beginning-2
-    (λ c κs. listable _ _ _ oneItems refl refl)  -- print-beginning-requires
+    (λ c κs. listable _ _ _ oneItems refl refl (omega arith))  -- print-beginning-requires
     (λ c. search needs)  -- returns
     )

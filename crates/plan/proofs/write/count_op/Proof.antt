@@ -10,27 +10,27 @@ returns c =
     let t = c .before in
     let i = t .before in
     let s = i .before .before .before .before in
-    sized-as (s .args .listed) (s .args .p) (token-op _ _ (i .if1 .taken) ∙ texted (sym (t .text-at .ensures))) (c .count-text .ensures)
+    sized-as (s .args .p) (token-op _ _ (i .if1 .taken) ∙ texted (sym (t .text-at .ensures))) (c .count-text .ensures)
 
 returns-2 : tie.Need-returns-2
 returns-2 c =
     let t = c .before in
     let i = t .before in
     let s = i .before .before .before .before .before in
-    sized-as (s .args .listed) (s .args .p) (word-op _ _ (i .if2 .taken) ∙ texted (sym (t .word-in .ensures))) (c .count-text2 .ensures)
+    sized-as (s .args .p) (word-op _ _ (i .if2 .taken) ∙ texted (sym (t .word-in .ensures))) (c .count-text2 .ensures)
 
 returns-3 : tie.Need-returns-3
 returns-3 c =
     let t = c .before in
     let i = t .before in
     let s = i .before .before .before .before .before .before in
-    sized-as (s .args .listed) (s .args .p) (note-op _ _ (i .if3 .taken) ∙ noted _ _ (sym (t .place-of .ensures))) (c .count-note .ensures)
+    sized-as (s .args .p) (note-op _ _ (i .if3 .taken) ∙ noted _ _ (sym (t .place-of .ensures))) (c .count-note .ensures)
 
 returns-4 : tie.Need-returns-4
 returns-4 c =
     let i = c .before in
     let s = i .before .before .before .before .before .before in
-    sized-as (s .args .listed) (s .args .p) (plain-op _ _ (i .before .before .if1 .left) (i .before .if2 .left) (i .if3 .left)) (c .count-plain .ensures)
+    sized-as (s .args .p) (plain-op _ _ (i .before .before .if1 .left) (i .before .if2 .left) (i .if3 .left)) (c .count-plain .ensures)
 
 pub count-op-spec : {M : Type 1} → statement M
 count-op-spec =
