@@ -4,14 +4,11 @@ use mathlib.Core.Bool.{Bool, true, false, cond}
 use mathlib.Core.List.{List, [], _∷_, _++_}
 use Prim.Native.Nat.{ℕ}
 use native.Mathlib.Omega.{arith}
-use denote.Enum.Declared.{tagOf}
-use types.Run.{OneOf}
 use Rattle.items.specs.declared.Printed.{Printed}
 use Rattle.items.specs.declared.Printed.the-variants.{Done, Full}
 use Rattle.items.specs.declared.Size.{Size}
 use Rattle.items.specs.Item.{Item}
 use Rattle.items.specs.Machine.{State, Outcome, full, reached, printable, emitted, emitAll, printing, seen, Held, held, Says}
-use Rattle.items.proofs.Printed.{the-type}
 
 all-append : (xs ys : List Item) (σ : State) → emitAll (xs ++ ys) σ ≡ printing ys (emitAll xs σ)
 unfolding emitAll printing
@@ -47,11 +44,6 @@ infixr 40 _▸▸_
 -- some items, and then others
 pub _▸▸_ : {xs ys : List Item} {o a b : Held} → Says xs o a → Says ys a b → Says (xs ++ ys) o b
 _▸▸_ {xs} {ys} h k = record { ran = rw (printing-append xs ys, ← (h .ran)) (k .ran); sameRecords = k .sameRecords ∙ h .sameRecords; sameTexts = k .sameTexts ∙ h .sameTexts }
-
--- the other arm of a `let Printed::Done(p) = r else`
-pub is-full : (r : Printed) → OneOf (1 ∷ []) (tagOf the-type r) → r ≡ Full
-is-full (Done p) h = absurd (omega arith)
-is-full Full h = refl
 
 -- printing that is full stays where it is, whatever is printed
 pub passed : (xs : List Item) {rs ts : List ℕ} {p : Printed} → p ≡ Full → Says xs (held rs ts p) (held rs ts p)

@@ -13,12 +13,8 @@ use Rattle.items.specs.Item.{Item, text, plainItem}
 use Rattle.items.specs.declared.Size.{Size}
 use Rattle.items.specs.Machine.{allFit, sized, noSize, Puts, held, Says}
 use Rattle.items.specs.declared.Printed.{Printed}
-use Rattle.items.specs.declared.Printed.the-variants.{Done}
-use Rattle.items.proofs.Printed.{the-type}
-use Rattle.items.proofs.Laws.{is-full}
+use Rattle.items.specs.declared.Printed.the-variants.{Done, Full}
 use Rattle.items.proofs.Fits.{sized-none, sized-append, puts-none, puts-append, fit-append, said-puts, said-done}
-use denote.Enum.Declared.{tagOf}
-use types.Run.{OneOf}
 use Rattle.comments.specs.Comments.{Location, endOfItems, comment}
 use Rattle.tree.specs.Index.{kindAt}
 use Rattle.plan.specs.Words.{wordAt}

@@ -1,4 +1,3 @@
-use Rattle.items.proofs.Laws.{is-full}
 use Rattle.items.proofs.Emits.{stays-full}
 use Rattle.items.proofs.Numbers.{nowhere, in-range, goes-on}
 use borrow.Author.Needs.{needs}
