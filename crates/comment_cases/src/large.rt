@@ -11,10 +11,10 @@ use cases::number32;
 use cases::put_all;
 use cases::word;
 use comments::CommentLocation;
-use items::Size;
-use items::no_size;
 use items::Printed;
 use items::RECORD;
+use items::Size;
+use items::no_size;
 
 // A case has seven fields: the token's kind, head and piece, how often the piece comes, the tail, and what is expected above
 // an item and inline.

@@ -8,10 +8,10 @@ use cases::nth_field;
 use cases::number;
 use cases::word;
 use comments::CommentLocation;
-use items::Size;
-use items::no_size;
 use items::Printed;
 use items::RECORD;
+use items::Size;
+use items::no_size;
 ghost use Prim.Native.Nat.{_-_, _≤_};
 ghost use lib.ListN.{length};
 
@@ -91,7 +91,14 @@ fn items_agree(records: &[u32], texts: &[u8], c: Size, want: &[u8]) -> bool {
 fn counted(kind: u32, s: &[u8], loc: CommentLocation) -> Printed {
     let mut records = [0u32; 0];
     let mut texts = [0u8; 0];
-    comments::format_comment(&mut records, &mut texts, kind, s, loc, Printed::Done(no_size(false)))
+    comments::format_comment(
+        &mut records,
+        &mut texts,
+        kind,
+        s,
+        loc,
+        Printed::Done(no_size(false)),
+    )
 }
 
 // Counting alone gives this size.

@@ -1,7 +1,7 @@
 // The calls from a tree image to print items and to their listing.
 use formatter::Answer;
 use formatter::ListAnswer;
-use formatter::Totals;
+use items::Count;
 use numbers::refusal::Refusal;
 use numbers::refusal::number_of;
 ghost use mathlib.Core.Path.{_≡_};
@@ -14,7 +14,7 @@ ghost use Rattle.exports.specs.Print.{number, values, valuesListed, Repo
 // A refusal of document 01 with its element, or 0 with the counts and the bytes of the listing.
 struct Report {
     number: u32,
-    counts: Totals,
+    counts: Count,
     bytes: usize,
     element: u32,
 }
@@ -26,7 +26,7 @@ fn refused(f: Refusal) -> Report
     let reason = f.reason;
     Report {
         number: number_of(reason),
-        counts: Totals {
+        counts: Count {
             records: 0,
             texts: 0,
             runs: 0,

@@ -10,20 +10,20 @@ use lib.ListN.{length, drop}
 use lib.Seq.{drop-append-seam}
 use Rattle.items.specs.Item.{Item, Out, stop, ok}
 use Rattle.items.specs.Role.{runsOf, marksOf}
-use Rattle.items.specs.Records.{words, bytes, overlaid, recordSize}
+use Rattle.items.specs.Records.{words, bytes, countsOf, overlaid, recordSize}
 use Rattle.items.proofs.Decoding.{decoded-is, words-length}
 use Rattle.tree.specs.Tree.{treeOf}
 use Rattle.tree.specs.Refusal.{Refusal, refusal}
 use Rattle.tree.proofs.Accepted.{Accepted, accepted}
 use Rattle.listing.specs.Listing.{listing}
 use Rattle.printer.specs.Print.{sourceFile}
-use Rattle.formatter.specs.declared.Totals.{Totals}
+use Rattle.items.specs.declared.Count.{Count}
 use Rattle.formatter.specs.PutBack.{putBack}
 use Rattle.formatter.specs.Plain.{plainFile}
 use Rattle.formatter.specs.Answered.{Answered}
 use Rattle.formatter.proofs.Agree.{Same, gives, agree}
 use Rattle.formatter.proofs.Counted.{records-bound}
-use Rattle.formatter.specs.Answer.{Verdict, turnedAway, printed, fromPrinting, fromTests, verdict, withRoom, withListing, ruling, refused, done, totalsOf, lengthOf, answerOf, answer, bufferOf, recordsAfter, textsAfter, listingAfter}
+use Rattle.formatter.specs.Answer.{Verdict, turnedAway, printed, fromPrinting, fromTests, verdict, withRoom, withListing, ruling, refused, done, lengthOf, answerOf, answer, bufferOf, recordsAfter, textsAfter, listingAfter}
 
 -- ---- what leads to items
 
@@ -87,19 +87,19 @@ passed image rs ts ls xs h =
 
 -- ---- answers
 
-answer-printed : (ls : Option (List ℕ)) (v : Verdict) (c : Totals) (n : Option ℕ) → answerOf ls v ≡ done c n → (xs : List Item) × (v ≡ printed xs) × (c ≡ totalsOf xs) × (n ≡ lengthOf ls xs)
+answer-printed : (ls : Option (List ℕ)) (v : Verdict) (c : Count) (n : Option ℕ) → answerOf ls v ≡ done c n → (xs : List Item) × (v ≡ printed xs) × (c ≡ countsOf xs) × (n ≡ lengthOf ls xs)
 unfolding answerOf
 answer-printed ls (turnedAway m e) c n h = absurd (let z : _≡_ {A = ℕ} 0 1 = cc in omega arith)
 answer-printed ls (printed xs) c n h = (xs, refl, cc, cc)
 
 -- what an answer with counts says of the buffers that come back
 pub answered :
-    (image rs ts : List ℕ) (ls : Option (List ℕ)) (c : Totals) (n : Option ℕ) → answer image rs ts ls ≡ done c n
+    (image rs ts : List ℕ) (ls : Option (List ℕ)) (c : Count) (n : Option ℕ) → answer image rs ts ls ≡ done c n
     → Answered image (recordsAfter image rs ts ls) (textsAfter image rs ts ls) c
 unfolding answer recordsAfter textsAfter bufferOf
 answered image rs ts ls c n h = let (xs, v, e, _) = answer-printed ls (ruling image rs ts ls) c n h in go xs v e (passed image rs ts ls xs v)
   where
-    go : (xs : List Item) → ruling image rs ts ls ≡ printed xs → c ≡ totalsOf xs → Passed image xs → Answered image (recordsAfter image rs ts ls) (textsAfter image rs ts ls) c
+    go : (xs : List Item) → ruling image rs ts ls ≡ printed xs → c ≡ countsOf xs → Passed image xs → Answered image (recordsAfter image rs ts ls) (textsAfter image rs ts ls) c
     go xs v e p = record {
       items = xs;
       decodes = rw (e, v) (decoded-is xs (drop (length (words 0 xs)) rs) (drop (length (bytes xs)) ts));
@@ -123,22 +123,22 @@ listing-untouched image rs ts ls n e h = kept (some ls) listing ls (ruling image
 
 -- an answer with counts leaves what is past them as it was
 pub beyond :
-    (image rs ts : List ℕ) (ls : Option (List ℕ)) (c : Totals) (n : Option ℕ) → answer image rs ts ls ≡ done c n
+    (image rs ts : List ℕ) (ls : Option (List ℕ)) (c : Count) (n : Option ℕ) → answer image rs ts ls ≡ done c n
     → (drop (recordSize * c .records) (recordsAfter image rs ts ls) ≡ drop (recordSize * c .records) rs) × (drop (c .texts) (textsAfter image rs ts ls) ≡ drop (c .texts) ts)
 unfolding answer recordsAfter textsAfter bufferOf
 beyond image rs ts ls c n h = let (xs, v, e, _) = answer-printed ls (ruling image rs ts ls) c n h in go xs v e
   where
-    go : (xs : List Item) → ruling image rs ts ls ≡ printed xs → c ≡ totalsOf xs
+    go : (xs : List Item) → ruling image rs ts ls ≡ printed xs → c ≡ countsOf xs
         → (drop (recordSize * c .records) (recordsAfter image rs ts ls) ≡ drop (recordSize * c .records) rs) × (drop (c .texts) (textsAfter image rs ts ls) ≡ drop (c .texts) ts)
     go xs v e = rw (v, e) (behind (recordSize * length xs) (words 0 xs) rs (words-length 0 xs), behind (length (bytes xs)) (bytes xs) ts refl)
 
 -- where a listing was asked for, the answer gives its length, and its buffer begins with it and goes on as it was
 pub listed :
-    (image rs ts ls : List ℕ) (c : Totals) (n : ℕ) → answer image rs ts (some ls) ≡ done c (some n)
+    (image rs ts ls : List ℕ) (c : Count) (n : ℕ) → answer image rs ts (some ls) ≡ done c (some n)
     → (xs : List Item) × (sourceFile (treeOf image) 0 ≡ ok xs (c .runs)) × (n ≡ length (listing xs)) × (listingAfter image rs ts ls ≡ overlaid (listing xs) ls)
 unfolding answer listingAfter bufferOf
 listed image rs ts ls c n h = let (xs, v, e, l) = answer-printed (some ls) (ruling image rs ts (some ls)) c (some n) h in go xs v e l
   where
-    go : (xs : List Item) → ruling image rs ts (some ls) ≡ printed xs → c ≡ totalsOf xs → some n ≡ lengthOf (some ls) xs
+    go : (xs : List Item) → ruling image rs ts (some ls) ≡ printed xs → c ≡ countsOf xs → some n ≡ lengthOf (some ls) xs
         → (xs : List Item) × (sourceFile (treeOf image) 0 ≡ ok xs (c .runs)) × (n ≡ length (listing xs)) × (listingAfter image rs ts ls ≡ overlaid (listing xs) ls)
     go xs v e l = (xs, rw e (passed image rs ts (some ls) xs v .prints), cc, rw v)

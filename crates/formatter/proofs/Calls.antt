@@ -11,11 +11,11 @@ use lib.ListN.{length, drop, length-append}
 use borrow.Author.Tests.{lt-ltb, le-ltb, ltb-false, leb-true, not-true}
 use Rattle.text.proofs.Lists.{and-true}
 use Rattle.items.specs.Item.{Item, ok}
-use Rattle.items.specs.Role.{runsOf, marksOf}
+use Rattle.items.specs.Role.{isMark, runsOf, marksOf}
 use Rattle.items.specs.Lines.{recordLines}
-use Rattle.items.specs.Records.{words, bytes, Counts, countsOf, overlaid, decoded, recordSize}
+use Rattle.items.specs.Records.{words, bytes, countsOf, overlaid, decoded, recordSize}
 use Rattle.items.specs.declared.Size.{Size}
-use Rattle.items.specs.Machine.{allFit, sized, Puts, noCounts, noSize}
+use Rattle.items.specs.Machine.{allFit, sized, Puts, noSize}
 use Rattle.items.proofs.Decoding.{decoded-is, words-length}
 use Rattle.items.proofs.Fits.{Fits, fits-start, store-overlaid}
 use Rattle.numbers.specs.Refusal.{numberOf}
@@ -31,20 +31,20 @@ use Rattle.listing.specs.Writes.{page, Writes}
 use Rattle.listing.specs.Listable.{Listable, itemsIn}
 use Rattle.listing.proofs.Listable.{items-are, listable}
 use Rattle.printer.specs.Print.{sourceFile}
-use Rattle.formatter.specs.declared.Totals.{Totals}
+use Rattle.items.specs.declared.Count.{Count}
 use Rattle.formatter.specs.declared.serve.Plan.{Plan}
 use Rattle.formatter.specs.declared.serve.Attempt.{Attempt}
 use Rattle.formatter.specs.declared.serve.Attempt.the-variants.{Answered as Replied, Full}
 use Rattle.formatter.specs.declared.serve.Room.{Room}
 use Rattle.formatter.specs.declared.serve.Room.the-variants.{Enough, Short}
-use Rattle.formatter.specs.Answer.{Verdict, turnedAway, printed, fromPrinting, fromTests, verdict, withRoom, withListing, ruling, Answer, refused, done, totalsOf, answerOf, answer, bufferOf, recordsAfter, textsAfter, listingAfter}
+use Rattle.formatter.specs.Answer.{Verdict, turnedAway, printed, fromPrinting, fromTests, verdict, withRoom, withListing, ruling, Answer, refused, done, answerOf, answer, bufferOf, recordsAfter, textsAfter, listingAfter}
 use Rattle.formatter.specs.Answered.{Answered}
 use Rattle.formatter.specs.declared.ListAnswer.{ListAnswer}
 use Rattle.formatter.specs.declared.ListAnswer.the-variants.{Listed, Refused as Unlisted}
 use Rattle.formatter.specs.Reply.{replyListed, replyTo}
-use Rattle.formatter.specs.Calls.{asked, Served, Attempted, mostRecords, Sized, Ready, plannedAt, Whole, Halts, countsWith, totals, ample, shortage}
+use Rattle.formatter.specs.Calls.{asked, Served, Attempted, mostRecords, Sized, Ready, plannedAt, Whole, Halts, countsWith, ample, shortage}
 use Rattle.formatter.proofs.Counted.{records-bound, texts-bound}
-use Rattle.formatter.proofs.Fitted.{items-fit}
+use Rattle.formatter.proofs.Fitted.{one-mark, sum-le, items-fit}
 use Rattle.formatter.proofs.Agree.{agree}
 use Rattle.formatter.proofs.Answering.{same-ok, answered}
 
@@ -133,7 +133,7 @@ module _ (image rs ts ls : List ℕ) (xs : List Item) (v : verdict image ≡ pri
 
 -- ---- which buffer is too short
 
-module _ (c : Counts) (n w r size : ℕ) (listed : Bool) where
+module _ (c : Count) (n w r size : ℕ) (listed : Bool) where
   pub short-records : w < recordSize * c .records → Short RecordsTooShort ≡ shortage c n w r size listed
   unfolding shortage
   short-records h = rw (lt-ltb w (recordSize * c .records) h)
@@ -153,9 +153,9 @@ module _ (c : Counts) (n w r size : ℕ) (listed : Bool) where
       all-room l = rw (le-ltb w (recordSize * c .records) h, le-ltb r (c .texts) k, l)
 
 -- where no listing is asked for, its length is not looked at
-unlisted : (c d : Counts) (m n w r size : ℕ) → (c .records ≡ d .records) × (c .texts ≡ d .texts) → shortage c m w r size false ≡ shortage d n w r size false
+unlisted : (c : Count) (m n w r size : ℕ) → shortage c m w r size false ≡ shortage c n w r size false
 unfolding shortage
-unlisted c d m n w r size (e, f) = rw (e, f) refl
+unlisted c m n w r size = refl
 
 -- ---- sizes of arrays
 
@@ -219,20 +219,19 @@ module _ {image index ops : List ℕ} {q : Plan} (w : Whole image index ops q) w
   whole-verdict = rw (w .passed, w .prints)
 
   -- what is written from the start fits
-  pub plan-fits : allFit ys noCounts ≡ true
-  plan-fits = fits-start _ whole-fits
+  pub plan-fits : (l : Bool) → allFit ys (noSize l) ≡ true
+  plan-fits l = fits-start _ l whole-fits
 
   -- each run's list has two marks
   pairs : marksOf ys ≡ 2 * q .runs
   pairs = let (_, _, m) = same-ok ys (q .runs) (rw (w .prints) at (agree (treeOf image) 0)) in rw (w .runs) m
 
   pub marks-fit : 2 * q .runs < 2 ^ 32
-  marks-fit = rw (← pairs) (whole-fits .marks)
+  marks-fit = rw (← pairs) (omega (arith, sum-le isMark one-mark ys, whole-fits .records))
 
-  -- the counts of what is written or counted from the start; the lines are counted where they are listed
-  counted : (l : Bool) (p : Size) {c : Counts} → p ≡ sized l ys noSize → c ≡ countsWith p (q .runs)
-      → c ≡ record { records = length ys; texts = length (bytes ys); runs = runsOf ys; marks = marksOf ys; lines = cond l (length (recordLines 0 ys)) 0 }
-  counted l p e i = i ∙ rw (e, zero-add (length ys), zero-add (length (bytes ys)), zero-add (cond l (length (recordLines 0 ys)) 0), pairs, w .runs) refl
+  -- the counts of what is written or counted from the start
+  counted : (l : Bool) (p : Size) {c : Count} → p ≡ sized ys (noSize l) → c ≡ countsWith p (q .runs) → c ≡ countsOf ys
+  counted l p e i = i ∙ rw (e, zero-add (length ys), zero-add (length (bytes ys)), pairs, w .runs) refl
 
   -- ---- room for all that an image may print
 
@@ -244,28 +243,31 @@ module _ {image index ops : List ℕ} {q : Plan} (w : Whole image index ops q) w
 
 -- ---- what both calls answer
 
--- the length of the listing of items, by their counts
-long : (xs : List Item) (c : Counts) (n : ℕ) → c ≡ countsOf xs → n ≡ length (headLine c) + c .lines → n ≡ length (listing xs)
+-- the length of the listing of items, by their counts and the bytes of their lines
+long : (xs : List Item) (c : Count) (m n : ℕ) → c ≡ countsOf xs → m ≡ length (recordLines 0 xs) → n ≡ length (headLine c) + m → n ≡ length (listing xs)
 unfolding listing
-long xs c n e l = rw (length-append (headLine (countsOf xs)) (recordLines 0 xs)) (rw e at l)
+long xs c m n e k l = rw (length-append (headLine (countsOf xs)) (recordLines 0 xs)) (rw (e, k) at l)
 
-module _ {image index ops : List ℕ} {q : Plan} (rs ts ls : List ℕ) (listed : Bool) (z : Size) {c : Counts} {n : ℕ} {f : Room} (w : Whole image index ops q) (y : z ≡ sized listed (ys w) noSize) (e : c ≡ countsWith z (q .runs)) (l : n ≡ length (headLine c) + c .lines) (g : f ≡ shortage c n (length rs) (length ts) (length ls) listed) where
-  -- where lines are counted, the counts are those of the items, and n is the length of their listing
-  all-counted : listed ≡ true → (c ≡ countsOf (ys w)) × (n ≡ length (listing (ys w)))
-  all-counted j = let h : c ≡ countsOf (ys w) = counted w listed z y e ∙ rw j refl in (h, long (ys w) c n h l)
+module _ {image index ops : List ℕ} {q : Plan} (rs ts ls : List ℕ) (listed : Bool) (z : Size) {c : Count} {n : ℕ} {f : Room} (w : Whole image index ops q) (y : z ≡ sized (ys w) (noSize listed)) (e : c ≡ countsWith z (q .runs)) (l : n ≡ length (headLine c) + z .lines) (g : f ≡ shortage c n (length rs) (length ts) (length ls) listed) where
+  all-counted : c ≡ countsOf (ys w)
+  all-counted = counted w listed z y e
+
+  -- where records are listed, n is the length of their listing
+  line-counted : listed ≡ true → n ≡ length (listing (ys w))
+  line-counted j = long (ys w) c (z .lines) n all-counted (ap Size.lines y ∙ rw (j, zero-add (length (recordLines 0 (ys w)))) refl) l
 
   lacks : f ≡ short image rs ts ls (ys w) (whole-verdict w) listed
   lacks = g ∙ go listed refl
     where
       go : (b : Bool) → listed ≡ b → shortage c n (length rs) (length ts) (length ls) b ≡ short image rs ts ls (ys w) (whole-verdict w) b
-      go true j = let (h, k) = all-counted j in rw (k, h) refl
-      go false j = unlisted c (countsOf (ys w)) n (length (listing (ys w))) (length rs) (length ts) (length ls) (let h = counted w listed z y e in (ap (λ (c : Counts). c .records) h, ap (λ (c : Counts). c .texts) h))
+      go true j = rw (line-counted j, all-counted) refl
+      go false j = rw all-counted (unlisted (countsOf (ys w)) n (length (listing (ys w))) (length rs) (length ts) (length ls))
 
   -- a buffer is too short
   pub lacking : {r : Reason} → f ≡ Short r → Served image rs ts ls listed rs ts ls (refused (numberOf r) 0)
   lacking i = turned image rs ts ls listed _ 0 (rules image rs ts ls (ys w) (whole-verdict w) listed ∙ ap (left (ys w)) (sym lacks ∙ i))
 
-  module _ (i : f ≡ Enough) {rs′ ts′ : List ℕ} {d : Size} (x : Puts false (ys w) rs ts noSize rs′ ts′ d) where
+  module _ (i : f ≡ Enough) {rs′ ts′ : List ℕ} {d : Size} (x : Puts (ys w) rs ts (noSize false) rs′ ts′ d) where
     fitting : (recordSize * length (ys w) ≤ length rs) × (length (bytes (ys w)) ≤ length ts) × (listed ≡ true → length (listing (ys w)) ≤ length ls)
     fitting = roomy image rs ts ls (ys w) (whole-verdict w) listed (sym lacks ∙ i)
 
@@ -279,33 +281,30 @@ module _ {image index ops : List ℕ} {q : Plan} (rs ts ls : List ℕ) (listed :
     laid-texts = x .texts ∙ store-overlaid (bytes (ys w)) ts (fitting .1)
 
     decodes : decoded rs′ ts′ (c .records) ≡ some (ys w)
-    decodes = rw (laid-records, laid-texts, counted w listed z y e) (decoded-is (ys w) (drop (length (words 0 (ys w))) rs) (drop (length (bytes (ys w))) ts))
-
-    totalled : {t : Totals} → t ≡ totals c → t ≡ totalsOf (ys w)
-    totalled k = k ∙ rw (counted w listed z y e) refl
+    decodes = rw (laid-records, laid-texts, all-counted) (decoded-is (ys w) (drop (length (words 0 (ys w))) rs) (drop (length (bytes (ys w))) ts))
 
     -- the records and texts are those of the items that are listed
-    pub tells : listed ≡ true → Listable rs′ ts′ c
-    tells j = listable rs′ ts′ c (ys w) decodes (all-counted j .0)
+    pub tells : Listable rs′ ts′ c
+    tells = listable rs′ ts′ c (ys w) decodes all-counted (whole-fits w .lines)
 
     -- no listing is asked for
-    pub prints : listed ≡ false → {t : Totals} → t ≡ totals c → Served image rs ts ls listed rs′ ts′ ls (done t (cond listed (some n) none))
+    pub prints : listed ≡ false → Served image rs ts ls listed rs′ ts′ ls (done c (cond listed (some n) none))
     unfolding answer answerOf recordsAfter textsAfter bufferOf
-    prints j k = record { answers = rw (j, rw j at ruled, totalled k); records = rw (ruled) laid-records; texts = rw ruled laid-texts; listing = rw j refl }
+    prints j = record { answers = rw (j, rw j at ruled, all-counted); records = rw ruled laid-records; texts = rw ruled laid-texts; listing = rw j refl }
 
     -- one is
-    pub lists : listed ≡ true → {t : Totals} → t ≡ totals c → {ls′ : List ℕ} {k : ℕ} → Writes (listing (itemsIn rs′ ts′ (c .records))) (page ls 0) (page ls′ k) → Served image rs ts ls listed rs′ ts′ ls′ (done t (cond listed (some n) none))
+    pub lists : listed ≡ true → {ls′ : List ℕ} {k : ℕ} → Writes (listing (itemsIn rs′ ts′ (c .records))) (page ls 0) (page ls′ k) → Served image rs ts ls listed rs′ ts′ ls′ (done c (cond listed (some n) none))
     unfolding answer answerOf recordsAfter textsAfter listingAfter bufferOf
-    lists j k o = record {
-      answers = rw (j, rw j at ruled, all-counted j .1, totalled k);
+    lists j o = record {
+      answers = rw (j, rw j at ruled, line-counted j, all-counted);
       records = rw ruled laid-records;
       texts = rw ruled laid-texts;
       listing = rw (j, rw j at ruled) (rw (items-are rs′ ts′ (c .records) (ys w) decodes) at (o .stored) ∙ store-overlaid (listing (ys w)) ls (fitting .2 j));
     }
 
 -- where there is room for all that an image may print
-module _ {image index ops : List ℕ} {q : Plan} {rs ts : List ℕ} (ls : List ℕ) {b : Bool} (a : Bool) {rs′ ts′ : List ℕ} (d : Size) {c : Counts} {t : Totals} (w : Whole image index ops q) (p : b ≡ ample image (length rs) (length ts)) (h : (not a && b) ≡ true) (x : Puts false (ys w) rs ts noSize rs′ ts′ d) (i : c ≡ countsWith d (q .runs)) (j : t ≡ totals c) where
-  pub prints-ample : (n : ℕ) → Served image rs ts ls a rs′ ts′ ls (done t (cond a (some n) none))
+module _ {image index ops : List ℕ} {q : Plan} {rs ts : List ℕ} (ls : List ℕ) {b : Bool} (a : Bool) {rs′ ts′ : List ℕ} (d : Size) {c : Count} (w : Whole image index ops q) (p : b ≡ ample image (length rs) (length ts)) (h : (not a && b) ≡ true) (x : Puts (ys w) rs ts (noSize false) rs′ ts′ d) (i : c ≡ countsWith d (q .runs)) where
+  pub prints-ample : (n : ℕ) → Served image rs ts ls a rs′ ts′ ls (done c (cond a (some n) none))
   unfolding answer answerOf recordsAfter textsAfter bufferOf ample
   prints-ample n =
       let (u, v) = and-true (not a) b h in
@@ -315,7 +314,7 @@ module _ {image index ops : List ℕ} {q : Plan} {rs ts : List ℕ} (ls : List �
       let l : length (bytes (ys w)) ≤ length ts = omega (arith, few-texts w, leb-true (39 * mostRecords image) (length ts) g) in
       let r = rules-room image rs ts ls (ys w) (whole-verdict w) k l in
       rw e (record {
-        answers = rw (r, j, counted w false d (x .size) i) refl;
+        answers = rw (r, counted w false d (x .size) i) refl;
         records = rw r (x .records ∙ store-overlaid (words 0 (ys w)) rs (rw (words-length 0 (ys w)) k));
         texts = rw r (x .texts ∙ store-overlaid (bytes (ys w)) ts l);
         listing = refl;
@@ -325,16 +324,16 @@ module _ {image index ops : List ℕ} {q : Plan} {rs ts : List ℕ} (ls : List �
 
 module _ {image rs ts ls rs′ ts′ ls′ : List ℕ} {listed : Bool} {a b : Answer} (h : Served image rs ts ls listed rs′ ts′ ls′ a) (i : b ≡ a) where
   -- what holds of the buffers that come back with counts
-  holds : (c : Totals) (n : Option ℕ) → b ≡ done c n → Answered image rs′ ts′ c
+  holds : (c : Count) (n : Option ℕ) → b ≡ done c n → Answered image rs′ ts′ c
   holds c n e = rw (h .records, h .texts) (answered image rs ts (asked listed ls) c n (sym (h .answers) ∙ sym i ∙ e))
 
   -- the clauses of the call that prints
-  pub stated : listed ≡ false → (b ≡ answer image rs ts none) × ((rs′ ≡ recordsAfter image rs ts none) × ((ts′ ≡ textsAfter image rs ts none) × ((c : Totals) (n : Option ℕ) → b ≡ done c n → Answered image rs′ ts′ c)))
+  pub stated : listed ≡ false → (b ≡ answer image rs ts none) × ((rs′ ≡ recordsAfter image rs ts none) × ((ts′ ≡ textsAfter image rs ts none) × ((c : Count) (n : Option ℕ) → b ≡ done c n → Answered image rs′ ts′ c)))
   stated j = let k : asked listed ls ≡ none = rw j refl in (rw (← k) (i ∙ h .answers), (rw (← k) (h .records), (rw (← k) (h .texts), holds)))
 
   -- and of the one that lists
   pub stated-list : listed ≡ true
-      → (b ≡ answer image rs ts (some ls)) × ((rs′ ≡ recordsAfter image rs ts (some ls)) × ((ts′ ≡ textsAfter image rs ts (some ls)) × ((ls′ ≡ listingAfter image rs ts ls) × ((c : Totals) (n : Option ℕ) → b ≡ done c n → Answered image rs′ ts′ c))))
+      → (b ≡ answer image rs ts (some ls)) × ((rs′ ≡ recordsAfter image rs ts (some ls)) × ((ts′ ≡ textsAfter image rs ts (some ls)) × ((ls′ ≡ listingAfter image rs ts ls) × ((c : Count) (n : Option ℕ) → b ≡ done c n → Answered image rs′ ts′ c))))
   stated-list j = let k : asked listed ls ≡ some ls = rw j refl in (rw (← k) (i ∙ h .answers), (rw (← k) (h .records), (rw (← k) (h .texts), (h .listing ∙ rw j refl, holds))))
 
 -- the answer of the call that lists

@@ -41,7 +41,7 @@ one-run (opens k) = omega arith
 one-run (closes k) = omega arith
 one-run (repeats k) = omega arith
 
-one-mark : (r : Role) → isMark r ≤ 1
+pub one-mark : (r : Role) → isMark r ≤ 1
 one-mark stays = omega arith
 one-mark marks = omega arith
 one-mark (opens k) = omega arith
@@ -60,13 +60,10 @@ items-fit {image} a =
     let r = records-bound a in
     let t = texts-bound a in
     let u = sum-le isRun one-run xs in
-    let m = sum-le isMark one-mark xs in
     let o = all-short (numbers-small (treeOf image)) (omega arith) (omega arith) in
     record {
       operands = o;
       records = omega arith;
       texts = omega arith;
-      runs = omega arith;
-      marks = omega arith;
       lines = omega (arith, lines-short 0 o (omega arith));
     }

@@ -11,7 +11,7 @@ use Rattle.listing.proofs.Refused.{refused-short}
 use Rattle.listing.specs.Writes.{page, Writes}
 use Rattle.listing.proofs.Writes.{kept}
 use Rattle.numbers.specs.declared.refusal.Refusal.{Refusal}
-use Rattle.formatter.specs.declared.Totals.{Totals}
+use Rattle.items.specs.declared.Count.{Count}
 use Rattle.formatter.specs.declared.ListAnswer.{ListAnswer}
 use Rattle.formatter.specs.declared.ListAnswer.the-variants.{Listed, Refused}
 use Rattle.items.specs.Records.{recordSize}
@@ -36,7 +36,7 @@ module _ (image rs ts ls : List ℕ) (a : length rs ≡ recordSize * 5000) (b : 
       go (turnedAway n e) = refl
       go (printed xs) = rw (blank-long, c)
 
-  pub responds-listed : {out : List ℕ} {t : ListAnswer} {d : Totals} {n : ℕ} → t ≡ Listed d n → replyListed t ≡ answer image rs ts (some ls) → out ≡ listingAfter image rs ts ls
+  pub responds-listed : {out : List ℕ} {t : ListAnswer} {d : Count} {n : ℕ} → t ≡ Listed d n → replyListed t ≡ answer image rs ts (some ls) → out ≡ listingAfter image rs ts ls
       → Responds image ls out (record { number = 0; bytes = n })
   unfolding answer answerOf listingAfter bufferOf response printedOf numberIn
   responds-listed {out} {t} {d} {n} i j k = go (ruling image rs ts (some ls)) as-judged (ap replyListed (sym i) ∙ j) k

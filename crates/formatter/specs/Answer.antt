@@ -6,13 +6,12 @@ use Prim.Native.Nat.{ℕ, _*_}
 use lib.Dec.{ltb}
 use lib.ListN.{length}
 use Rattle.items.specs.Item.{Item, Out, stop, ok}
-use Rattle.items.specs.Role.{runsOf, marksOf}
-use Rattle.items.specs.Records.{words, bytes, overlaid, recordSize}
+use Rattle.items.specs.Records.{words, bytes, countsOf, overlaid, recordSize}
 use Rattle.tree.specs.Tree.{treeOf}
 use Rattle.tree.specs.Refusal.{Refusal, refusal}
 use Rattle.listing.specs.Listing.{listing}
 use Rattle.printer.specs.Print.{sourceFile}
-use Rattle.formatter.specs.declared.Totals.{Totals}
+use Rattle.items.specs.declared.Count.{Count}
 
 -- What tests say of an image: 'the number and the first offending element', or its items.
 pub data Verdict : Type 0 where
@@ -54,11 +53,7 @@ ruling image rs ts ls = withListing ls (withRoom (length rs) (length ts) (verdic
 -- 'the answer is the number and the first offending element'; 'Success gives records, text bytes, runs and marks, and for a listing its length'.
 pub data Answer : Type 0 where
   refused : ℕ → ℕ → Answer
-  done : Totals → Option ℕ → Answer
-
--- 'records, text bytes, runs and marks' of items
-abbrev pub totalsOf : List Item → Totals
-totalsOf xs = record { records = length xs; texts = length (bytes xs); runs = runsOf xs; marks = marksOf xs }
+  done : Count → Option ℕ → Answer
 
 -- the length of a listing that was asked for
 abbrev pub lengthOf : Option (List ℕ) → List Item → Option ℕ
@@ -68,7 +63,7 @@ lengthOf (some ls) xs = some (length (listing xs))
 -- the answer by what the tests say
 unfoldable pub answerOf : Option (List ℕ) → Verdict → Answer
 answerOf ls (turnedAway n e) = refused n e
-answerOf ls (printed xs) = done (totalsOf xs) (lengthOf ls xs)
+answerOf ls (printed xs) = done (countsOf xs) (lengthOf ls xs)
 
 -- what a call answers
 unfoldable pub answer : List ℕ → List ℕ → List ℕ → Option (List ℕ) → Answer

@@ -4,21 +4,20 @@ use mathlib.Core.Option.{some}
 use mathlib.Core.List.{List}
 use Prim.Native.Nat.{ℕ, _+_, _*_, _≤_}
 use Rattle.items.specs.Item.{Item, ok}
-use Rattle.items.specs.Records.{decoded}
+use Rattle.items.specs.Records.{countsOf, decoded}
 use Rattle.tree.specs.Tree.{countN, countB, treeOf}
 use Rattle.printer.specs.Print.{sourceFile}
-use Rattle.formatter.specs.declared.Totals.{Totals}
-use Rattle.formatter.specs.Answer.{totalsOf}
+use Rattle.items.specs.declared.Count.{Count}
 use Rattle.formatter.specs.PutBack.{putBack}
 use Rattle.formatter.specs.Plain.{plainFile}
 
 -- What holds of an image and of the buffers rs and ts that come back with the counts c: the records decode to the printing's items, which
 -- put back are the plain printing, the counts are theirs, and they are at most 24 for each element and 4 for each byte.
-pub record Answered (image rs ts : List ℕ) (c : Totals) : Type 0 where
+pub record Answered (image rs ts : List ℕ) (c : Count) : Type 0 where
   pub items : List Item
   pub decodes : decoded rs ts (c .records) ≡ some items
   pub printing : sourceFile (treeOf image) 0 ≡ ok items (c .runs)
-  pub counts : c ≡ totalsOf items
+  pub counts : c ≡ countsOf items
   pub plain : plainFile (treeOf image) 0 ≡ ok (putBack items) (c .runs)
   pub marks : c .marks ≡ 2 * c .runs
   pub bound : c .records ≤ 24 * countN image + 4 * countB image

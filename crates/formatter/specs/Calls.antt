@@ -11,14 +11,14 @@ use Rattle.numbers.specs.declared.Element.{Element}
 use Rattle.numbers.specs.declared.refusal.Reason.the-variants.{RecordsTooShort, TextsTooShort, ListingTooShort}
 use Rattle.items.specs.Item.{Item, stop, ok}
 use Rattle.items.specs.Role.{runsOf}
-use Rattle.items.specs.Records.{Counts, recordSize}
+use Rattle.items.specs.Records.{recordSize}
 use Rattle.items.specs.declared.Size.{Size}
 use Rattle.tree.specs.Tree.{countN, countB, treeOf}
 use Rattle.tree.specs.Refusal.{refusal}
 use Rattle.tree.specs.Index.{indexSize}
 use Rattle.plan.specs.Ops.{sourceAt, decoded}
 use Rattle.printer.specs.Print.{sourceFile}
-use Rattle.formatter.specs.declared.Totals.{Totals}
+use Rattle.items.specs.declared.Count.{Count}
 use Rattle.formatter.specs.declared.ListAnswer.{ListAnswer}
 use Rattle.formatter.specs.declared.serve.Plan.{Plan}
 use Rattle.formatter.specs.declared.serve.Room.{Room}
@@ -54,7 +54,7 @@ listed listing = some (listing .entry .now)
 
 -- what holds of the buffers that come back, where the answer has counts
 abbrev pub AnsweredIn : Lent → Lent → Lent → Answer → Type 0
-AnsweredIn image records texts a = (c : Totals) (n : Option ℕ) → a ≡ done c n → Answered (image .entry .now) (records .exit .now) (texts .exit .now) c
+AnsweredIn image records texts a = (c : Count) (n : Option ℕ) → a ≡ done c n → Answered (image .entry .now) (records .exit .now) (texts .exit .now) c
 
 -- ---- both at once
 
@@ -131,19 +131,15 @@ TriedIn size image records texts listing listed a =
     Attempted (226305 ≤ size) (image .entry .now) (records .entry .now) (texts .entry .now) (listing .entry .now) listed (records .exit .now) (texts .exit .now) (listing .exit .now) a
 
 -- the counts of items by their size and their runs, with two marks for each
-abbrev pub countsWith : Size → ℕ → Counts
-countsWith p k = record { records = p .records; texts = p .texts; runs = k; marks = 2 * k; lines = p .lines }
-
--- those of them that are answered
-abbrev pub totals : Counts → Totals
-totals c = record { records = c .records; texts = c .texts; runs = c .runs; marks = c .marks }
+abbrev pub countsWith : Size → ℕ → Count
+countsWith p k = record { records = p .records; texts = p .texts; runs = k; marks = 2 * k }
 
 -- buffers of so many words and bytes have room for all that an image may print
 unfoldable pub ample : List ℕ → ℕ → ℕ → Bool
 ample image words room = leb (recordSize * mostRecords image) words && leb (39 * mostRecords image) room
 
 -- 11, 12 and 13 by the counts and the bytes of the listing, for buffers of so many words and bytes
-unfoldable pub shortage : Counts → ℕ → ℕ → ℕ → ℕ → Bool → Room
+unfoldable pub shortage : Count → ℕ → ℕ → ℕ → ℕ → Bool → Room
 shortage c n words room size listed =
     cond (ltb words (recordSize * c .records)) (Short RecordsTooShort)
     (cond (ltb room (c .texts)) (Short TextsTooShort)

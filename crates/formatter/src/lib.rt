@@ -2,30 +2,23 @@
 pub mod program;
 mod serve;
 
+use items::Count;
 use numbers::refusal::Refusal;
 ghost use mathlib.Core.Path.{_≡_};
 ghost use mathlib.Core.Option.{none};
 ghost use Rattle.formatter.specs.Reply.{reply, replyListed};
 ghost use Rattle.formatter.specs.Calls.{answerIn, recordsIn, textsIn, listingIn, listed, AnsweredIn};
 
-// What was printed: records, bytes of their texts, runs and marks.
-pub struct Totals {
-    pub records: u32,
-    pub texts: u32,
-    pub runs: u32,
-    pub marks: u32,
-}
-
 // Why a tree was turned away, or the counts of what was printed.
 pub enum Answer {
     Refused(Refusal),
-    Printed(Totals),
+    Printed(Count),
 }
 
 // Why a tree was turned away, or the counts of what was printed and the bytes of its listing.
 pub enum ListAnswer {
     Refused(Refusal),
-    Listed { counts: Totals, bytes: usize },
+    Listed { counts: Count, bytes: usize },
 }
 
 // Prints the source file of a tree image into the lent buffers, or says why not and leaves them as they are.

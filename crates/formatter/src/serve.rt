@@ -1,6 +1,5 @@
 // What both calls do: tests, plan, room, and then records, texts and the listing, if one is asked for.
 use crate::ListAnswer;
-use crate::Totals;
 use items::Count;
 use items::RECORD;
 use items::Size;
@@ -27,7 +26,7 @@ ghost use mathlib.Core.Option.{none};
 ghost use Prim.Native.Nat.{_*_, _<_, _≤_, _^_};
 ghost use lib.ListN.{length};
 ghost use Rattle.tree.specs.Refusal.{refusal};
-ghost use Rattle.formatter.specs.Calls.{ServedIn, AttemptedIn, TriedIn, mostRecords, Sized, Ready, Foresees, Whole, countsWith, totals, ample, shortage};
+ghost use Rattle.formatter.specs.Calls.{ServedIn, AttemptedIn, TriedIn, mostRecords, Sized, Ready, Foresees, Whole, countsWith, ample, shortage};
 
 // How many operations an array holds, four times as many in each size but the largest, which has room for every image. An array is
 // tried first that holds some for each element, which most images do not need; where it is full, the largest.
@@ -305,19 +304,6 @@ fn counts_with(p: Size, runs: u32) -> Count
         texts: p.texts,
         runs,
         marks: 2 * runs,
-        lines: p.lines,
-    }
-}
-
-// The counts that are answered.
-fn totals(c: Count) -> Totals
-    ensures { λ r. ⌜ r ≡ totals c ⌝ }
-{
-    Totals {
-        records: c.records,
-        texts: c.texts,
-        runs: c.runs,
-        marks: c.marks,
     }
 }
 
@@ -339,22 +325,21 @@ fn serve_planned(
     if !listed & is_ample(image, records.len(), texts.len()) {
         let p = write_ops(records, texts, image, index, ops, n);
         return ListAnswer::Listed {
-            counts: totals(counts_with(p, plan.runs)),
+            counts: counts_with(p, plan.runs),
             bytes: 0,
         };
     }
     let p = count_ops(image, index, ops, n, listed);
-    let c = counts_with(p, plan.runs);
-    let counts = totals(c);
-    let bytes = listing_length(c);
+    let counts = counts_with(p, plan.runs);
+    let bytes = listing_length(counts, p.lines);
     let size = listing.len();
-    let f = fit(c, bytes, records.len(), texts.len(), size, listed);
+    let f = fit(counts, bytes, records.len(), texts.len(), size, listed);
     if let Room::Short(reason) = f {
         return ListAnswer::Refused(whole(reason));
     }
     write_ops(records, texts, image, index, ops, n);
     if listed {
-        write_listing(records, texts, c, listing);
+        write_listing(records, texts, counts, listing);
     }
     ListAnswer::Listed { counts, bytes }
 }

@@ -9,16 +9,15 @@ use native.Mathlib.Numerals.{add-one}
 use lib.ListN.{length, set, length-append}
 use lib.Seq.{sets-eq, length-sets}
 use borrow.Author.Tests.{lt-ltb, ltb-true}
-use Rattle.text.specs.Basic.{sum, all, All, ∅, _▹_}
+use Rattle.text.specs.Basic.{all, All, ∅, _▹_}
 use Rattle.items.specs.declared.Printed.{Printed}
 use Rattle.items.specs.declared.Printed.the-variants.{Done, Full}
 use Rattle.items.specs.declared.Size.{Size}
 use Rattle.items.specs.Item.{always, lines, Item, signal, text, mark, runEnd, again, ifTest, Out, stop, ok, run as opening}
-use Rattle.items.specs.Role.{role, isMark, marksOf}
 use Rattle.items.specs.Lines.{recordLine, recordLines}
 use Rattle.items.specs.Records.{recordOf, bytesOf, words, bytes, overlaid, recordSize}
 use Rattle.items.specs.Machine.{State, store, counted, fit, printable, allFit, sized, noSize, Puts, emitted, emitAll, Outcome, full, reached, printing, seen, held, Says}
-use Rattle.text.proofs.Lists.{and-true, sum-append}
+use Rattle.text.proofs.Lists.{and-true}
 use Rattle.items.proofs.Decoding.{words-length}
 
 -- the items that a printing gives, all of them or until it stops
@@ -99,21 +98,6 @@ pub fits-start : (xs : List Item) (l : Bool) → Fits xs → allFit xs (noSize l
 fits-start xs l f =
     all-fit xs (noSize l) (f .operands) (rw (zero-add (length xs)) (f .records)) (rw (zero-add (length (bytes xs))) (f .texts))
     (rw (zero-add (length (recordLines 0 xs))) (f .lines))
-
--- there are no more marks than items
-pub marks-few : (xs : List Item) → marksOf xs ≤ length xs
-unfolding sum
-marks-few [] = omega arith
-marks-few (x ∷ xs) = omega (arith, marks-few xs, go x)
-  where
-    go : (x : Item) → isMark (role x) ≤ 1
-    go (text s) = omega arith
-    go (signal s) = omega arith
-    go (mark n) = omega arith
-    go (opening n) = omega arith
-    go (runEnd n) = omega arith
-    go (again n) = omega arith
-    go (ifTest t) = omega arith
 
 -- ---- items put behind others
 
