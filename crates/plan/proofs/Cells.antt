@@ -1,6 +1,6 @@
 -- What stores to the cells and to the operations mean for what is seen.
 use mathlib.Core.Path.{_≡_, refl, sym, ap, _∙_}
-use mathlib.Core.Logic.{_⊎_, inl, inr, ⊎-elim}
+use mathlib.Core.Logic.{inl, inr, ⊎-elim}
 use mathlib.Core.Bool.{Bool, true, false, false≢true}
 use mathlib.Core.List.{List, [], _∷_, _++_, append-nil}
 use Prim.Native.Nat.{ℕ, zero, suc, _+_, _*_, _-_, _^_, _/_, _%_, _<_, _≤_, min}
@@ -9,7 +9,7 @@ use native.Mathlib.Numerals.{add-one}
 use lib.Dec.{eqb}
 use lib.ListN.{length, length-append, getD, set, length-set}
 use lib.Seq.{getD-set-same, getD-set-other}
-use borrow.Author.Tests.{eqb-true, eq-eqb, ne-eqb}
+use borrow.Author.Tests.{eqb-true, eqb-false}
 use Rattle.numbers.specs.declared.Mark.{Mark}
 use Rattle.items.specs.declared.Condition.{Condition}
 use Rattle.items.specs.declared.Condition.the-variants.{Always, Lines}
@@ -18,14 +18,14 @@ use Rattle.items.specs.declared.Signal.the-variants.{NewLine, SpaceOrNewLine, T
 use Rattle.text.specs.Basic.{isNil, sum}
 use Rattle.text.proofs.Lists.{sum-append}
 use Rattle.items.specs.Role.{role, isRun, runsOf}
-use Rattle.items.specs.Item.{lines, Item, Print, mark, runEnd, again, say, says, openRun, stopped, ok, run, ifTest, plainItem}
+use Rattle.items.specs.Item.{lines, Item, Out, stop, ok, Print, mark, runEnd, again, say, says, openRun, stopped, run, ifTest, plainItem}
 use Rattle.items.specs.Item.{signal, signalKind, conditionTest}
 use Rattle.comments.specs.Comments.{Location, aboveItem, itemInline, endOfItems, comment}
 use Rattle.tree.specs.Index.{kindAt}
 use Rattle.plan.specs.Words.{wordCount}
 use Rattle.plan.specs.Ops.{Source, token, note, expand, opItems, coded, operandLimit, decoded, noteKind}
-use Rattle.plan.proofs.Laws.{by, blank}
-use Rattle.plan.specs.Plans.{Planned, halted, full, planned, joined, planning, Held, held, status, stoppedAt, count, nextRun, told, seen, itemsIn, Reaches, Adds, Tidy, Kept, Plans}
+use Rattle.plan.proofs.Laws.{seen-going, seen-still, going-full, ended-going, frame-none, frame-both, by}
+use Rattle.plan.specs.Plans.{full, planned, joined, planning, Held, held, status, count, nextRun, itemsAt, seen, itemsIn, Kept, Adds, Plans}
 use Rattle.plan.specs.Load.{numberIn, load, Carried}
 use Rattle.plan.proofs.Loads.{load-append, length-load, weigh-more}
 use Rattle.plan.proofs.Still.{comment-still}
@@ -55,153 +55,160 @@ module _ (s : Source) (ops cells : List ℕ) where
   abbrev h : Held
   h = held ops cells
 
+  other : (i v j : ℕ) → (j ≡ i → ⊥) → getD (set cells i v) j 0 ≡ getD cells j 0
+  other i v j n = getD-set-other cells i j v 0 n
+
   -- planning that does not go on stays as it is
   pub passed : (q : Print) → (getD cells 0 0 ≡ 0 → ⊥) → Adds s q h h
-  unfolding seen planning
-  passed q n = record { ran = record { got = inl (go (eqb (length cells) 8) (eqb (getD cells 0 0) 0) (ne-eqb (getD cells 0 0) 0 n) (eqb (getD cells 0 0) 1)) }; sameOps = refl; grown = λ l. omega arith }
+  passed q n = record { ran = λ l. record { got = inl (sym (seen-still s h q n)) }; sameOps = refl; frame = λ l. frame-none h; one = λ l. omega arith; none = λ m. (refl, refl, refl) }
+
+  module _ (g : getD cells 0 0 ≡ 0) where
+    filled : length cells ≡ 8 → seen s (held ops (set cells 0 2)) ≡ full (itemsAt s h)
+    unfolding seen
+    filled l = rw (getD-set-same cells 0 2 0 (omega (arith, l)), other 0 2 2 (λ w. omega arith))
+
+    -- items that have no room
+    fills : (xs : List Item) → (getD cells 2 0 ≤ load (itemsAt s h) → min (length ops) (2 ^ 32 - 1) ≤ load (itemsAt s h ++ xs)) → Adds s (says xs) h (held ops (set cells 0 2))
+    unfolding planning joined says
+    fills xs f = record {
+      ran = λ l. record { got = inr (rw (filled l, seen-going s h g) (record { ends = refl; begins = record { more = xs; is = refl }; over = λ k. f (omega (arith, k .few, length-load (itemsAt s h))) })) };
+      sameOps = refl;
+      frame = λ l. record {
+        still = λ n. absurd (n g);
+        before = λ i m. refl;
+        past = λ i m. refl;
+        grown = omega (arith, same);
+        unstopped = λ n. other 0 2 1 (λ w. omega arith);
+        free = λ i m. other 0 2 i (λ w. omega arith);
+        known = λ m. omega (arith, getD-set-same cells 0 2 0 (omega (arith, l)));
+        sameCells = length-set cells 0 2;
+      };
+      one = λ l. omega (arith, same);
+      none = λ n. (ap (decoded s ops) same, same, other 0 2 3 (λ w. omega arith));
+    }
+      where
+        same : getD (set cells 0 2) 2 0 ≡ getD cells 2 0
+        same = other 0 2 2 (λ w. omega arith)
+
+    -- an array that is full
+    pub array-full : (op : ℕ) → min (length ops) (2 ^ 32 - 1) ≤ getD cells 2 0 → Adds s (says (opItems s op)) h (held ops (set cells 0 2))
+    array-full op l = fills (opItems s op) (λ k. omega (arith, l, k, load-append (itemsAt s h) (opItems s op)))
+
+    -- an operand that has no room
+    pub operand-full : (k v : ℕ) → operandLimit ≤ v → (operandLimit ≤ v → 2 ^ 32 ≤ load (expand s k v)) → Adds s (says (expand s k v)) h (held ops (set cells 0 2))
+    operand-full k v l c = fills (expand s k v) (λ w. omega (arith, load-append (itemsAt s h) (expand s k v), c l))
+
+    -- room for one more
+    more : (n op : ℕ) → n ≡ getD cells 2 0 → n < length ops → Adds s (says (opItems s op)) h (held (set ops n op) (set cells 2 (n + 1)))
+    unfolding seen planning joined says
+    more n op e m = record {
+      ran = λ l. record { got = inl (rw (other 2 (n + 1) 0 (λ w. omega arith), other 2 (n + 1) 3 (λ w. omega arith), at l, g, add-one n, decoded-more s ops n op m, ← e)) };
+      sameOps = length-set ops n op;
+      frame = λ l. record {
+        still = λ f. absurd (f g);
+        before = λ i k. getD-set-other ops n i op 0 (λ w. omega arith);
+        past = λ i k. getD-set-other ops n i op 0 (λ w. omega (arith, at l));
+        grown = omega (arith, at l);
+        unstopped = λ f. other 2 (n + 1) 1 (λ w. omega arith);
+        free = λ i k. other 2 (n + 1) i (λ w. omega arith);
+        known = λ k. omega (arith, other 2 (n + 1) 0 (λ w. omega arith));
+        sameCells = length-set cells 2 (n + 1);
+      };
+      one = λ l. omega (arith, at l);
+      none = λ f. absurd (f (other 2 (n + 1) 0 (λ w. omega arith) ∙ g));
+    }
+      where
+        at : length cells ≡ 8 → getD (set cells 2 (n + 1)) 2 0 ≡ n + 1
+        at l = getD-set-same cells 2 (n + 1) 0 (omega (arith, l))
+
+    pub added : (n op : ℕ) → n ≡ getD cells 2 0 → n < length ops → Adds s (says (opItems s op)) h (held (set ops n op) (set cells 2 (getD cells 2 0 + 1)))
+    added n op e l = rw (← e) (more n op e l)
+
+    -- planning stops
+    pub stopping : (e : ℕ) → Adds s (stopped e) h (held ops (set (set cells 1 e) 0 1))
+    unfolding seen planning joined stopped
+    stopping e = record {
+      ran = λ l. record { got = inl (rw (now l, at l, same 2 (omega arith), g, append-nil (itemsAt s h))) };
+      sameOps = refl;
+      frame = λ l. record {
+        still = λ n. absurd (n g);
+        before = λ i m. refl;
+        past = λ i m. refl;
+        grown = omega (arith, same 2 (omega arith));
+        unstopped = λ n. absurd (n (now l));
+        free = λ i m. same i (omega arith);
+        known = λ m. omega (arith, now l);
+        sameCells = length-set (set cells 1 e) 0 1 ∙ length-set cells 1 e;
+      };
+      one = λ l. omega (arith, same 2 (omega arith));
+      none = λ n. (ap (decoded s ops) (same 2 (omega arith)), same 2 (omega arith), same 3 (omega arith));
+    }
+      where
+        same : (i : ℕ) → 2 ≤ i → getD (set (set cells 1 e) 0 1) i 0 ≡ getD cells i 0
+        same i l = getD-set-other (set cells 1 e) 0 i 1 0 (λ w. omega arith) ∙ other 1 e i (λ w. omega arith)
+
+        now : length cells ≡ 8 → getD (set (set cells 1 e) 0 1) 0 0 ≡ 1
+        now l = getD-set-same (set cells 1 e) 0 1 0 (omega (arith, l, length-set cells 1 e))
+
+        at : length cells ≡ 8 → getD (set (set cells 1 e) 0 1) 1 0 ≡ e
+        at l = getD-set-other (set cells 1 e) 0 1 1 0 (λ w. omega arith) ∙ getD-set-same cells 1 e 0 (omega (arith, l))
+
+-- ---- runs
+
+-- the run of the next list, which is to be begun
+module _ (s : Source) (ops cells : List ℕ) {k : ℕ} (g : getD cells 0 0 ≡ 0) (e : k ≡ getD cells 3 0) {a : Held} (p : Adds s (says (run k ∷ [])) (held ops cells) a) where
+  abbrev o : Held
+  o = held ops cells
+
+  -- it begins
+  pub opened : status a ≡ 0 → Adds s openRun o (held (a .ops) (set (a .cells) 3 (k + 1)))
+  unfolding planning joined says openRun
+  opened f = record {
+    ran = λ l. record { got = inl (⊎-elim (begun l) (λ d. absurd (going-full s a f (d .ends))) (p .ran l .got)) };
+    sameOps = p .sameOps;
+    frame = λ l. frame-both (p .frame l) (record {
+      still = λ n. absurd (n f);
+      before = λ i m. refl;
+      past = λ i m. refl;
+      grown = omega (arith, same 2 (λ w. omega arith));
+      unstopped = λ n. same 1 (λ w. omega arith);
+      free = λ i m. same i (λ w. omega arith);
+      known = λ m. omega (arith, same 0 (λ w. omega arith));
+      sameCells = length-set (a .cells) 3 (k + 1);
+    });
+    one = λ l. omega (arith, p .one l, same 2 (λ w. omega arith));
+    none = λ n. absurd (n (same 0 (λ w. omega arith) ∙ f));
+  }
     where
-      go : (l a : Bool) → a ≡ false → (b : Bool) → let x = told l a b (planned (decoded s ops (getD cells 2 0)) (getD cells 3 0)) (halted (decoded s ops (getD cells 2 0)) (getD cells 1 0)) in x ≡ planning q x
-      go true true e b = absurd (false≢true (sym e))
-      go true false e true = refl
-      go true false e false = refl
-      go false a e b = refl
+      same : (i : ℕ) → (i ≡ 3 → ⊥) → getD (set (a .cells) 3 (k + 1)) i 0 ≡ getD (a .cells) i 0
+      same i n = getD-set-other (a .cells) 3 i (k + 1) 0 n
 
-  -- no room
-  filled : seen s (held ops (set cells 0 2)) ≡ full
-  unfolding seen
-  filled = go (eqb (length (set cells 0 2)) 8) refl
-    where
-      x : Planned
-      x = planned (decoded s ops (getD (set cells 0 2) 2 0)) (getD (set cells 0 2) 3 0)
-
-      y : Planned
-      y = halted (decoded s ops (getD (set cells 0 2) 2 0)) (getD (set cells 0 2) 1 0)
-
-      go : (l : Bool) → eqb (length (set cells 0 2)) 8 ≡ l → told l (eqb (getD (set cells 0 2) 0 0) 0) (eqb (getD (set cells 0 2) 0 0) 1) x y ≡ full
-      go true e = rw (getD-set-same cells 0 2 0 (omega (arith, length-set cells 0 2, eqb-true (length (set cells 0 2)) 8 e)))
-      go false e = refl
-
-  going : length cells ≡ 8 → getD cells 0 0 ≡ 0 → seen s h ≡ planned (decoded s ops (getD cells 2 0)) (getD cells 3 0)
-  unfolding seen
-  going l g = rw (eq-eqb (length cells) 8 l, g)
-
-  lost : eqb (length cells) 8 ≡ false → seen s h ≡ full
-  unfolding seen
-  lost l = rw l
-
-  -- where planning goes on, there are no more operations than items weigh
-  holds : length cells ≡ 8 → getD cells 0 0 ≡ 0 → Kept s h → getD cells 2 0 ≤ load (decoded s ops (getD cells 2 0))
-  holds l g k = omega (arith, length-load (decoded s ops (getD cells 2 0)), (rw (going l g) at (k .is)) .1)
-
-  -- items that have no room
-  fills : (xs : List Item) → getD cells 0 0 ≡ 0 → (getD cells 2 0 ≤ load (decoded s ops (getD cells 2 0)) → min (length ops) (2 ^ 32 - 1) ≤ load (decoded s ops (getD cells 2 0) ++ xs)) → Adds s (says xs) h (held ops (set cells 0 2))
-  unfolding planning joined says
-  fills xs g f = record { ran = record { got = go (eqb (length cells) 8) refl }; sameOps = refl; grown = λ l. omega (arith, getD-set-other cells 0 2 2 0 (λ w. omega arith)) }
-    where
-      go : (l : Bool) → eqb (length cells) 8 ≡ l → (seen s (held ops (set cells 0 2)) ≡ planning (says xs) (seen s h)) ⊎ ((seen s (held ops (set cells 0 2)) ≡ full) × (Kept s h → min (length ops) (2 ^ 32 - 1) ≤ load (itemsIn (planning (says xs) (seen s h)))))
-      go true e = let l = eqb-true (length cells) 8 e in inr (filled, λ k. rw (going l g) (f (holds l g k)))
-      go false e = inl (filled ∙ rw (lost e) refl)
-
-  -- an array that is full
-  pub array-full : (op : ℕ) → getD cells 0 0 ≡ 0 → min (length ops) (2 ^ 32 - 1) ≤ getD cells 2 0 → Adds s (says (opItems s op)) h (held ops (set cells 0 2))
-  array-full op g l = fills (opItems s op) g (λ k. omega (arith, l, k, load-append (decoded s ops (getD cells 2 0)) (opItems s op)))
-
-  -- an operand that has no room
-  pub operand-full : (k v : ℕ) → getD cells 0 0 ≡ 0 → operandLimit ≤ v → (operandLimit ≤ v → 2 ^ 32 ≤ load (expand s k v)) → Adds s (says (expand s k v)) h (held ops (set cells 0 2))
-  operand-full k v g l c = fills (expand s k v) g (λ w. omega (arith, load-append (decoded s ops (getD cells 2 0)) (expand s k v), c l))
-
-  -- room for one more
-  more : (n op : ℕ) → getD cells 0 0 ≡ 0 → n ≡ getD cells 2 0 → n < length ops → Adds s (says (opItems s op)) h (held (set ops n op) (set cells 2 (n + 1)))
-  unfolding seen planning joined says
-  more n op g e l = record { ran = record { got = inl go }; sameOps = length-set ops n op; grown = λ l. omega (arith, e, getD-set-same cells 2 (n + 1) 0 (omega (arith, l))) }
-    where
-      step : (l : Bool) → eqb (length cells) 8 ≡ l
-          → told l (eqb (getD (set cells 2 (n + 1)) 0 0) 0) (eqb (getD (set cells 2 (n + 1)) 0 0) 1) (planned (decoded s (set ops n op) (getD (set cells 2 (n + 1)) 2 0)) (getD (set cells 2 (n + 1)) 3 0)) (halted (decoded s (set ops n op) (getD (set cells 2 (n + 1)) 2 0)) (getD (set cells 2 (n + 1)) 1 0))
-          ≡ planning (says (opItems s op)) (told l (eqb (getD cells 0 0) 0) (eqb (getD cells 0 0) 1) (planned (decoded s ops (getD cells 2 0)) (getD cells 3 0)) (halted (decoded s ops (getD cells 2 0)) (getD cells 1 0)))
-      step true f =
+      begun : length cells ≡ 8 → seen s a ≡ planning (says (run k ∷ [])) (seen s o) → seen s (held (a .ops) (set (a .cells) 3 (k + 1))) ≡ planning openRun (seen s o)
+      begun l d =
+          let i : itemsAt s a ≡ itemsAt s o ++ (run k ∷ []) = ap itemsIn (sym (seen-going s a f) ∙ d ∙ ap (planning (says (run k ∷ []))) (seen-going s o g)) in
           rw (
-            getD-set-other cells 2 0 (n + 1) 0 (λ w. omega arith),
-            getD-set-other cells 2 3 (n + 1) 0 (λ w. omega arith),
-            getD-set-same cells 2 (n + 1) 0 (omega (arith, eqb-true (length cells) 8 f)),
-            g,
-            add-one n,
-            decoded-more s ops n op l,
-            ← e,
+            seen-going s (held (a .ops) (set (a .cells) 3 (k + 1))) (same 0 (λ w. omega arith) ∙ f),
+            seen-going s o g,
+            same 2 (λ w. omega arith),
+            getD-set-same (a .cells) 3 (k + 1) 0 (omega (arith, l, p .frame l .sameCells)),
+            i,
+            add-one k,
+            e,
           )
-      step false f = refl
 
-      go : seen s (held (set ops n op) (set cells 2 (n + 1))) ≡ planning (says (opItems s op)) (seen s h)
-      go = rw (length-set cells 2 (n + 1)) (step (eqb (length cells) 8) refl)
-
-  pub added : (n op : ℕ) → getD cells 0 0 ≡ 0 → n ≡ getD cells 2 0 → n < length ops → Adds s (says (opItems s op)) h (held (set ops n op) (set cells 2 (getD cells 2 0 + 1)))
-  added n op g e l = rw (← e) (more n op g e l)
-
-  -- planning stops
-  pub stopping : (e : ℕ) → getD cells 0 0 ≡ 0 → Adds s (stopped e) h (held ops (set (set cells 1 e) 0 1))
-  unfolding seen planning joined stopped
-  stopping e g = record { ran = record { got = inl go }; sameOps = refl; grown = λ l. omega (arith, getD-set-other (set cells 1 e) 0 2 1 0 (λ w. omega arith), getD-set-other cells 1 2 e 0 (λ w. omega arith)) }
+  -- there was no room for it
+  pub unopened : (length cells ≡ 8 → status a ≡ 0 → ⊥) → Adds s openRun o a
+  unfolding planning joined says openRun
+  unopened n = record {
+    ran = λ l. record { got = inr (⊎-elim (λ d. absurd (ended-going s a (n l) (d ∙ ap (planning (says (run k ∷ []))) (seen-going s o g)))) (λ d. record { ends = d .ends; begins = rw same at (d .begins); over = λ v. rw same at (d .over v) }) (p .ran l .got)) };
+    sameOps = p .sameOps;
+    frame = p .frame;
+    one = p .one;
+    none = p .none;
+  }
     where
-      step : (l : Bool) → eqb (length cells) 8 ≡ l → let ds = set (set cells 1 e) 0 1 in
-          told l (eqb (getD ds 0 0) 0) (eqb (getD ds 0 0) 1) (planned (decoded s ops (getD ds 2 0)) (getD ds 3 0)) (halted (decoded s ops (getD ds 2 0)) (getD ds 1 0))
-          ≡ planning (stopped e) (told l (eqb (getD cells 0 0) 0) (eqb (getD cells 0 0) 1) (planned (decoded s ops (getD cells 2 0)) (getD cells 3 0)) (halted (decoded s ops (getD cells 2 0)) (getD cells 1 0)))
-      step true f = let n = eqb-true (length cells) 8 f in
-          rw (getD-set-same (set cells 1 e) 0 1 0 (omega (arith, n, length-set cells 1 e)), getD-set-other (set cells 1 e) 0 1 1 0 (λ w. omega arith), getD-set-same cells 1 e 0 (omega (arith, n)), getD-set-other (set cells 1 e) 0 2 1 0 (λ w. omega arith), getD-set-other cells 1 2 e 0 (λ w. omega arith), g, append-nil (decoded s ops (getD cells 2 0)))
-      step false f = refl
-
-      go : seen s (held ops (set (set cells 1 e) 0 1)) ≡ planning (stopped e) (seen s h)
-      go = rw (length-set (set cells 1 e) 0 1, length-set cells 1 e) (step (eqb (length cells) 8) refl)
-
-  -- the next list's number
-  abbrev rerun : ℕ → Planned → Planned
-  rerun v (halted xs e) = halted xs e
-  rerun v full = full
-  rerun v (planned xs k) = planned xs v
-
-  rerun-seen : (v : ℕ) → seen s (held ops (set cells 3 v)) ≡ rerun v (seen s h)
-  unfolding seen
-  rerun-seen v = rw (length-set cells 3 v) (step (eqb (length cells) 8) refl)
-    where
-      step : (l : Bool) → eqb (length cells) 8 ≡ l → let ds = set cells 3 v in
-          told l (eqb (getD ds 0 0) 0) (eqb (getD ds 0 0) 1) (planned (decoded s ops (getD ds 2 0)) (getD ds 3 0)) (halted (decoded s ops (getD ds 2 0)) (getD ds 1 0))
-          ≡ rerun v (told l (eqb (getD cells 0 0) 0) (eqb (getD cells 0 0) 1) (planned (decoded s ops (getD cells 2 0)) (getD cells 3 0)) (halted (decoded s ops (getD cells 2 0)) (getD cells 1 0)))
-      step true f = rw (getD-set-same cells 3 v 0 (omega (arith, eqb-true (length cells) 8 f)), getD-set-other cells 3 0 v 0 (λ w. omega arith), getD-set-other cells 3 1 v 0 (λ w. omega arith), getD-set-other cells 3 2 v 0 (λ w. omega arith))
-          (both (eqb (getD cells 0 0) 0) (eqb (getD cells 0 0) 1))
-        where
-          both : (a b : Bool) → told true a b (planned (decoded s ops (getD cells 2 0)) v) (halted (decoded s ops (getD cells 2 0)) (getD cells 1 0)) ≡ rerun v (told true a b (planned (decoded s ops (getD cells 2 0)) (getD cells 3 0)) (halted (decoded s ops (getD cells 2 0)) (getD cells 1 0)))
-          both true b = refl
-          both false true = refl
-          both false false = refl
-      step false f = refl
-
-  rerun-open : (k : ℕ) → k ≡ getD cells 3 0 → rerun (k + 1) (planning (says (run k ∷ [])) (seen s h)) ≡ planning openRun (seen s h)
-  unfolding seen planning says openRun joined
-  rerun-open k e = go (eqb (length cells) 8) (eqb (getD cells 0 0) 0) (eqb (getD cells 0 0) 1)
-    where
-      go : (l a b : Bool) → let x = told l a b (planned (decoded s ops (getD cells 2 0)) (getD cells 3 0)) (halted (decoded s ops (getD cells 2 0)) (getD cells 1 0)) in rerun (k + 1) (planning (says (run k ∷ [])) x) ≡ planning openRun x
-      go true true b = rw (← e, add-one k) refl
-      go true false true = refl
-      go true false false = refl
-      go false a b = refl
-
-rerun-items : (v : ℕ) (x : Planned) → itemsIn (rerun blank [] [] v x) ≡ itemsIn x
-rerun-items v (halted xs e) = refl
-rerun-items v full = refl
-rerun-items v (planned xs k) = refl
-
--- the run of the next list begins
-pub opened : (s : Source) (ops cells ops′ cells′ : List ℕ) (k : ℕ) → k ≡ getD cells 3 0 → Adds s (says (run k ∷ [])) (held ops cells) (held ops′ cells′) → Adds s openRun (held ops cells) (held ops′ (set cells′ 3 (k + 1)))
-opened s ops cells ops′ cells′ k e p = record {
-  ran = record {
-    got = ⊎-elim
-        (λ d. inl (rerun-seen s ops′ cells′ (k + 1) ∙ ap (rerun s ops′ cells′ (k + 1)) d ∙ rerun-open s ops cells k e))
-        (λ d. inr (
-          rerun-seen s ops′ cells′ (k + 1) ∙ ap (rerun s ops′ cells′ (k + 1)) (d .0),
-          λ w. rw (sym (rerun-open s ops cells k e), rerun-items (k + 1) (planning (says (run k ∷ [])) (seen s (held ops cells)))) (d .1 w),
-        )) (p .ran .got);
-  };
-  sameOps = p .sameOps;
-  grown = λ l. omega (arith, getD-set-other cells′ 3 2 (k + 1) 0 (λ w. omega arith), p .grown l);
-}
+      same : itemsIn (planning (says (run k ∷ [])) (seen s o)) ≡ itemsIn (planning openRun (seen s o))
+      same = rw (seen-going s o g, e)
 
 -- ---- operands
 
@@ -274,44 +281,45 @@ module _ (s : Source) (v : ℕ) where
 
 -- ---- what planners keep
 
--- A printing that numbers its lists, and prints something.
-record Neat (q : Print) : Type 0 where
-  keeps : (m n : ℕ) (x : Planned) → m ≤ suc n → Tidy n x → Tidy m (planning q x)
+-- a printing numbers its runs from k on, and prints something
+abbrev Numbered : ℕ → Out → Type 0
+Numbered k (stop xs e) = Unit {0}
+Numbered k (ok xs n) = (n ≡ k + runsOf xs) × (1 ≤ length xs)
 
-plans : {s : Source} {q : Print} {o a : Held} → Neat q → Adds s q o a → Plans s q o a
-unfolding planning
-plans {s} {q} {o} {a} n h = record { ran = h .ran; sameOps = h .sameOps; tidy = λ k. record { is = ⊎-elim (λ e. rw e (go (eqb (length (o .cells)) 8) refl k)) (λ e. rw (e .0) tt) (h .ran .got) } }
+plans : {s : Source} {q : Print} {o a : Held} → ((k : ℕ) → Numbered k (q k)) → Adds s q o a → Plans s q o a
+unfolding planning joined
+plans {s} {q} {o} {a} n h = record {
+  ran = h .ran;
+  sameOps = h .sameOps;
+  frame = h .frame;
+  tidy = λ k. let (r, f) = kept k (eqb (status o) 0) refl (eqb (status a) 0) refl in record { eight = h .frame (k .eight) .sameCells ∙ k .eight; runs = r; few = f };
+}
   where
-    go : (l : Bool) → eqb (length (o .cells)) 8 ≡ l → Kept s o → Tidy (count a) (planning q (seen s o))
-    go true e k = n .keeps (count a) (count o) (seen s o) (h .grown (eqb-true (length (o .cells)) 8 e)) (k .is)
-    go false e k = rw (lost s (o .ops) (o .cells) e) tt
+    more : count a ≤ suc (count o) → Kept s o → (x : Out) → Numbered (nextRun o) x → planned (itemsAt s a) (nextRun a) ≡ joined (itemsAt s o) x → (nextRun a ≡ runsOf (itemsAt s a)) × (count a ≤ length (itemsAt s a))
+    more l k (stop ys e) m d = absurd (let z : _≡_ {A = ℕ} 0 1 = cc in omega arith)
+    more l k (ok ys i) m d =
+        let x : itemsAt s a ≡ itemsAt s o ++ ys = cc in
+        let y : nextRun a ≡ i = cc in
+        rw x (omega (arith, y, m .0, k .runs, sum-append (λ x. isRun (role x)) (itemsAt s o) ys), omega (arith, m .1, k .few, length-append (itemsAt s o) ys))
+
+    kept : Kept s o → (b : Bool) → eqb (status o) 0 ≡ b → (c : Bool) → eqb (status a) 0 ≡ c → (nextRun a ≡ runsOf (itemsAt s a)) × (count a ≤ length (itemsAt s a))
+    kept k false e c f = rw (h .frame (k .eight) .still (eqb-false (status o) 0 e)) (k .runs, k .few)
+    kept k true e false f = let (x, y, z) = h .none (eqb-false (status a) 0 f) in rw (x, y, z) (k .runs, k .few)
+    kept k true e true f =
+        let going = seen-going s a (eqb-true (status a) 0 f) in
+        ⊎-elim (λ d. more (h .one (k .eight)) k (q (nextRun o)) (n (nextRun o)) (sym going ∙ d ∙ ap (planning q) (seen-going s o (eqb-true (status o) 0 e)))) (λ d. absurd (going-full s a (eqb-true (status a) 0 f) (d .ends))) (h .ran (k .eight) .got)
 
 pub carried-planned : (s : Source) (k v : ℕ) {o a : Held} → Carried s k v → Adds s (says (expand s k v)) o a → Plans s (says (expand s k v)) o a
-unfolding planning joined says
-carried-planned s k v c h = plans (record { keeps = λ m n x. go m n x }) h
-  where
-    go : (m n : ℕ) (x : Planned) → m ≤ suc n → Tidy n x → Tidy m (planning (says (expand s k v)) x)
-    go m n (halted xs e) l t = tt
-    go m n full l t = tt
-    go m n (planned xs i) l t = (omega (arith, sum-append (λ x. isRun (role x)) xs (expand s k v), c .calm, t .0), omega (arith, length-append xs (expand s k v), c .some, t .1))
+unfolding says
+carried-planned s k v c h = plans (λ i. (omega (arith, c .calm), c .some)) h
 
 pub open-planned : (s : Source) {o a : Held} → Adds s openRun o a → Plans s openRun o a
-unfolding planning joined openRun sum
-open-planned s h = plans (record { keeps = λ m n x. go m n x }) h
-  where
-    go : (m n : ℕ) (x : Planned) → m ≤ suc n → Tidy n x → Tidy m (planning openRun x)
-    go m n (halted xs e) l t = tt
-    go m n full l t = tt
-    go m n (planned xs i) l t = (omega (arith, sum-append (λ x. isRun (role x)) xs (run i ∷ []), t .0), omega (arith, length-append xs (run i ∷ []), t .1))
+unfolding openRun sum
+open-planned s h = plans (λ i. (omega arith, omega arith)) h
 
 pub stop-planned : (s : Source) (e : ℕ) {o a : Held} → Adds s (stopped e) o a → Plans s (stopped e) o a
-unfolding planning joined stopped
-stop-planned s e h = plans (record { keeps = λ m n x. go m n x }) h
-  where
-    go : (m n : ℕ) (x : Planned) → m ≤ suc n → Tidy n x → Tidy m (planning (stopped e) x)
-    go m n (halted xs i) l t = tt
-    go m n full l t = tt
-    go m n (planned xs i) l t = tt
+unfolding stopped
+stop-planned s e h = plans (λ i. tt) h
 
 -- ---- operations by their kinds
 
@@ -380,15 +388,4 @@ lines-planned s t m e h = rw e h
 pub overrun : (s : Source) (ops cells : List ℕ) (k : ℕ) → getD cells 0 0 ≡ 0 → k ≡ getD cells 3 0 → operandLimit ≤ k → Adds s openRun (held ops cells) (held ops (set cells 0 2))
 unfolding expand plainItem
 overrun s ops cells k g e l =
-    let p = operand-full s ops cells 12 k g l (λ m. one-far (run k) m) in
-    let z = filled s ops cells in
-    let f = rerun s ops cells (k + 1) in
-    record {
-      ran = record {
-        got = ⊎-elim
-            (λ d. inl (z ∙ sym (ap f z) ∙ ap f d ∙ rerun-open s ops cells k e))
-            (λ d. inr (z, λ w. rw (sym (rerun-open s ops cells k e), rerun-items (k + 1) (planning (says (run k ∷ [])) (seen s (held ops cells)))) (d .1 w))) (p .ran .got);
-      };
-      sameOps = refl;
-      grown = p .grown;
-    }
+    unopened s ops cells g e (operand-full s ops cells g 12 k l (λ m. one-far (run k) m)) (λ n z. omega (arith, z, getD-set-same cells 0 2 0 (omega (arith, n))))

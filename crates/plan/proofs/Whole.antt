@@ -1,13 +1,10 @@
 -- A whole printing by a plan: all of it is planned, and stops are known from the cells.
 use mathlib.Core.Path.{_≡_, refl, sym, ap, _∙_}
 use mathlib.Core.Logic.{⊎-elim}
-use mathlib.Core.Bool.{Bool, true, false}
-use mathlib.Core.List.{List, [], _∷_, _++_}
+use mathlib.Core.List.{List, []}
 use Prim.Native.Nat.{ℕ, _-_, _^_, _<_, _≤_, min}
 use native.Mathlib.Omega.{arith}
-use lib.Dec.{eqb}
-use lib.ListN.{length, getD}
-use borrow.Author.Tests.{eq-eqb, ne-eqb}
+use lib.ListN.{length}
 use Rattle.text.specs.Basic.{sum}
 use Rattle.items.specs.Item.{Item, Out, stop, ok, Print}
 use Rattle.items.proofs.Fits.{itemsOf}
@@ -15,23 +12,25 @@ use Rattle.items.specs.Role.{runsOf}
 use Rattle.plan.specs.Ops.{Source, decoded}
 use Rattle.plan.specs.Load.{load}
 use Rattle.plan.proofs.Loads.{length-load}
-use Rattle.plan.specs.Plans.{Planned, halted, full, planned, joined, planning, Held, held, status, stoppedAt, count, nextRun, told, seen, noCells, itemsIn, Tidy, Kept, Plans}
+use Rattle.plan.proofs.Laws.{seen-full}
+use Rattle.plan.proofs.Ends.{going-leaves, stop-leaves}
+use Rattle.plan.specs.Plans.{Planned, halted, full, planned, joined, planning, Held, held, status, stoppedAt, count, nextRun, itemsAt, seen, noCells, itemsIn, Kept, Plans}
 
 -- which of the three it is, the items, and the number
 abbrev tag : Planned → ℕ
 tag (halted xs e) = 1
-tag full = 2
+tag (full xs) = 2
 tag (planned xs k) = 0
 
 abbrev number : Planned → ℕ
 number (halted xs e) = e
-number full = 0
+number (full xs) = 0
 number (planned xs k) = k
 
-joined-tag : (o : Out) → full ≡ joined [] o → ⊥
+joined-tag : (o : Out) (ys : List Item) → full ys ≡ joined [] o → ⊥
 unfolding joined
-joined-tag (stop xs e) h = let z : _≡_ {A = ℕ} 2 1 = ap tag h in omega arith
-joined-tag (ok xs k) h = let z : _≡_ {A = ℕ} 2 0 = ap tag h in omega arith
+joined-tag (stop xs e) ys h = let z : _≡_ {A = ℕ} 2 1 = ap tag h in omega arith
+joined-tag (ok xs k) ys h = let z : _≡_ {A = ℕ} 2 0 = ap tag h in omega arith
 
 joined-items : (o : Out) → itemsIn (joined [] o) ≡ itemsOf o
 unfolding joined
@@ -50,56 +49,33 @@ joined-halted (ok ys k) xs e h = let z : _≡_ {A = ℕ} 1 0 = ap tag h in absur
 
 module _ (s : Source) (q : Print) (ops : List ℕ) (a : Held) (h : Plans s q (held ops noCells) a) (eight : length (a .cells) ≡ 8) where
   abbrev xs : List Item
-  xs = decoded s (a .ops) (count a)
+  xs = itemsAt s a
 
   start : planning q (seen s (held ops noCells)) ≡ joined [] (q 0)
   unfolding seen planning decoded
   start = refl
 
-  kept : Kept s a
-  unfolding seen decoded sum
-  kept = h .tidy (record { is = (refl, omega arith) })
-
-  -- the plan is the printing's, unless there was no room
-  whole : (x : Planned) → seen s a ≡ x → (tag x ≡ 2 → ⊥) → x ≡ joined [] (q 0)
-  whole x e f = ⊎-elim (λ i. sym e ∙ i ∙ start) (λ i. absurd (f (ap tag (sym e ∙ i .0)))) (h .ran .got)
-
-  seen-stopped : status a ≡ 1 → seen s a ≡ halted xs (stoppedAt a)
-  unfolding seen
-  seen-stopped g = rw (eq-eqb (length (a .cells)) 8 eight, g) refl
+  tidy : Kept s (held ops noCells)
+  unfolding decoded sum
+  tidy = record { eight = refl; runs = refl; few = omega arith }
 
   -- a plan that stopped did so where the printing does
   pub stopped-there : status a ≡ 1 → q 0 ≡ stop xs (stoppedAt a)
-  stopped-there g = joined-halted (q 0) xs (stoppedAt a) (whole (halted xs (stoppedAt a)) (seen-stopped g) (λ z. omega arith))
-
-  seen-going : status a ≡ 0 → seen s a ≡ planned xs (nextRun a)
-  unfolding seen
-  seen-going g = rw (eq-eqb (length (a .cells)) 8 eight, g) refl
+  stopped-there g = joined-halted (q 0) xs (stoppedAt a) (sym (stop-leaves h refl g) ∙ start)
 
   -- a plan that goes on holds all of the printing's items, and has counted its runs
   pub planned-all : status a ≡ 0 → q 0 ≡ ok xs (nextRun a)
-  planned-all g = joined-planned (q 0) xs (nextRun a) (whole (planned xs (nextRun a)) (seen-going g) (λ z. omega arith))
-
-  tidied : status a ≡ 0 → (nextRun a ≡ runsOf xs) × (count a ≤ length xs)
-  tidied g = rw (seen-going g) at (kept .is)
+  planned-all g = joined-planned (q 0) xs (nextRun a) (sym (going-leaves h refl g) ∙ start)
 
   pub runs-counted : status a ≡ 0 → nextRun a ≡ runsOf xs
-  runs-counted g = tidied g .0
+  runs-counted g = h .tidy tidy .runs
 
   -- in an array with room
   module _ (room : load (itemsOf (q 0)) < min (length ops) (2 ^ 32 - 1)) where
-    over : (Kept s (held ops noCells) → min (length ops) (2 ^ 32 - 1) ≤ load (itemsIn (planning q (seen s (held ops noCells))))) → ⊥
-    unfolding seen decoded sum
-    over f = omega (arith, room, rw (start, joined-items (q 0)) at (f (record { is = (refl, omega arith) })))
-
-    seen-full : (status a ≡ 0 → ⊥) → (status a ≡ 1 → ⊥) → seen s a ≡ full
-    unfolding seen
-    seen-full e f = rw (eq-eqb (length (a .cells)) 8 eight, ne-eqb (status a) 0 e, ne-eqb (status a) 1 f) refl
-
     -- planning goes on or stopped
     pub never-full : (status a ≡ 0 → ⊥) → (status a ≡ 1 → ⊥) → ⊥
-    never-full e f = ⊎-elim (λ i. joined-tag (q 0) (sym (seen-full e f) ∙ i ∙ start)) (λ i. over (i .1)) (h .ran .got)
+    never-full e f = ⊎-elim (λ i. joined-tag (q 0) xs (sym (seen-full s a e f) ∙ i ∙ start)) (λ i. omega (arith, room, rw (start, joined-items (q 0)) at (i .over tidy))) (h .ran refl .got)
 
     -- all operations lie in the array
     pub in-array : status a ≡ 0 → count a ≤ length ops
-    in-array g = let i : itemsOf (q 0) ≡ xs = ap itemsOf (planned-all g) in omega (arith, tidied g .1, length-load xs, rw i at room)
+    in-array g = let i : itemsOf (q 0) ≡ xs = ap itemsOf (planned-all g) in omega (arith, h .tidy tidy .few, length-load xs, rw i at room)

@@ -3,7 +3,7 @@ use mathlib.Core.Path.{_≡_}
 use mathlib.Core.Bool.{Bool, true, false}
 use mathlib.Core.Logic.{_⊎_}
 use mathlib.Core.List.{List, [], _∷_, _++_}
-use Prim.Native.Nat.{ℕ, suc, _-_, _^_, _≤_, min}
+use Prim.Native.Nat.{ℕ, suc, _-_, _^_, _<_, _≤_, min}
 use lib.Dec.{eqb}
 use lib.ListN.{length, getD}
 use Rattle.text.specs.Lent.{Lent}
@@ -12,10 +12,10 @@ use Rattle.items.specs.Role.{runsOf}
 use Rattle.plan.specs.Ops.{Source, sourceAt, decoded}
 use Rattle.plan.specs.Load.{load}
 
--- How far planning has come: the items before the element at which it stopped, no room, or the items and the next list's number.
+-- How far planning has come: the items before the element at which it stopped, those before there was no room, or the items and the next list's number.
 pub data Planned : Type 0 where
   halted : List Item → ℕ → Planned
-  full : Planned
+  full : List Item → Planned
   planned : List Item → ℕ → Planned
 
 -- what a printing's items make of the items before them
@@ -26,7 +26,7 @@ joined xs (ok ys k) = planned (xs ++ ys) k
 -- what a printing makes of what is planned
 unfoldable pub planning : Print → Planned → Planned
 planning q (halted xs e) = halted xs e
-planning q full = full
+planning q (full xs) = full xs
 planning q (planned xs k) = joined xs (q k)
 
 -- What a planner is handed and what it leaves: the operations, and the cells.
@@ -54,47 +54,78 @@ nextRun h = getD (h .cells) 3 0
 abbrev pub noCells : List ℕ
 noCells = 0 ∷ 0 ∷ 0 ∷ 0 ∷ 0 ∷ 0 ∷ 0 ∷ 0 ∷ []
 
--- what the cells say, where there are eight of them and where they say that planning goes on or stopped
-abbrev pub told : Bool → Bool → Bool → Planned → Planned → Planned
-told true true b x y = x
-told true false true x y = y
-told true false false x y = full
-told false a b x y = full
+-- the items of the operations
+abbrev pub itemsAt : Source → Held → List Item
+itemsAt s h = decoded s (h .ops) (count h)
+
+-- what the cells say, where they say that planning goes on or stopped
+abbrev pub told : Bool → Bool → List Item → ℕ → ℕ → Planned
+told true b xs k e = planned xs k
+told false true xs k e = halted xs e
+told false false xs k e = full xs
 
 -- what is seen of them
 unfoldable pub seen : Source → Held → Planned
-seen s h = told (eqb (length (h .cells)) 8) (eqb (status h) 0) (eqb (status h) 1) (planned (decoded s (h .ops) (count h)) (nextRun h)) (halted (decoded s (h .ops) (count h)) (stoppedAt h))
+seen s h = told (eqb (status h) 0) (eqb (status h) 1) (itemsAt s h) (nextRun h) (stoppedAt h)
 
 -- the items of it
 abbrev pub itemsIn : Planned → List Item
 itemsIn (halted xs e) = xs
-itemsIn full = []
+itemsIn (full xs) = xs
 itemsIn (planned xs k) = xs
 
--- the next list's number is the number of runs, and n operations are no more than the items
-abbrev pub Tidy : ℕ → Planned → Type 0
-Tidy n (halted xs e) = Unit {0}
-Tidy n full = Unit {0}
-Tidy n (planned xs k) = (k ≡ runsOf xs) × (n ≤ length xs)
-
--- What planners keep.
+-- What planners keep, at every end: there are eight cells, which is not known of lent ones; the next list's number is the number of
+-- runs; and there are no more operations than items.
 pub record Kept (s : Source) (h : Held) : Type 0 where
-  pub is : Tidy (count h) (seen s h)
+  pub eight : length (h .cells) ≡ 8
+  pub runs : nextRun h ≡ runsOf (itemsAt s h)
+  pub few : count h ≤ length (itemsAt s h)
 
--- x is y; or there was no room, and if what planners keep held before, y weighs no less than an array of cap operations holds.
+-- The first of ys are xs.
+pub record Begins (xs ys : List Item) : Type 0 where
+  pub more : List Item
+  pub is : ys ≡ xs ++ more
+
+-- There was no room for all of y: x has the first of its items; and if what planners keep held before, y weighs no less than an
+-- array of cap operations holds.
+pub record Short (cap : ℕ) (before : Type 0) (x y : Planned) : Type 0 where
+  pub ends : x ≡ full (itemsIn x)
+  pub begins : Begins (itemsIn x) (itemsIn y)
+  pub over : before → min cap (2 ^ 32 - 1) ≤ load (itemsIn y)
+
+-- x is y, or there was no room.
 pub record Reaches (cap : ℕ) (before : Type 0) (x y : Planned) : Type 0 where
-  pub got : (x ≡ y) ⊎ ((x ≡ full) × (before → min cap (2 ^ 32 - 1) ≤ load (itemsIn y)))
+  pub got : (x ≡ y) ⊎ Short cap before x y
 
--- What the one function that adds promises: planning q takes o to a with at most one operation more, in an array that keeps its length.
+-- What planning leaves as it was, at every end. Of all else, `seen` says what operations are added, whether planning goes on and
+-- where it stopped, and `Kept` the next list's number.
+pub record Frame (o a : Held) : Type 0 where
+  -- whoever is handed a stop or a full array changes nothing
+  pub still : (status o ≡ 0 → ⊥) → a ≡ o
+  -- the operations that were there, and what lies past those that are there now
+  pub before : (i : ℕ) → i < count o → getD (a .ops) i 0 ≡ getD (o .ops) i 0
+  pub past : (i : ℕ) → count a ≤ i → getD (a .ops) i 0 ≡ getD (o .ops) i 0
+  pub grown : count o ≤ count a
+  -- the element of a stop, where planning has not stopped; the free cells; the status is one of the three
+  pub unstopped : (status a ≡ 1 → ⊥) → stoppedAt a ≡ stoppedAt o
+  pub free : (i : ℕ) → 4 ≤ i → getD (a .cells) i 0 ≡ getD (o .cells) i 0
+  pub known : status o ≤ 2 → status a ≤ 2
+  pub sameCells : length (a .cells) ≡ length (o .cells)
+
+-- What the one function that adds promises: planning q takes o to a with at most one operation more, and with none where planning
+-- does not go on.
 pub record Adds (s : Source) (q : Print) (o a : Held) : Type 0 where
-  pub ran : Reaches (length (o .ops)) (Kept s o) (seen s a) (planning q (seen s o))
+  pub ran : length (o .cells) ≡ 8 → Reaches (length (o .ops)) (Kept s o) (seen s a) (planning q (seen s o))
   pub sameOps : length (a .ops) ≡ length (o .ops)
-  pub grown : length (o .cells) ≡ 8 → count a ≤ suc (count o)
+  pub frame : length (o .cells) ≡ 8 → Frame o a
+  pub one : length (o .cells) ≡ 8 → count a ≤ suc (count o)
+  pub none : (status a ≡ 0 → ⊥) → (itemsAt s a ≡ itemsAt s o) × (count a ≡ count o) × (nextRun a ≡ nextRun o)
 
--- Every planner's contract: planning q takes o to a, and what planners keep holds again.
+-- Every planner's contract: planning q takes o to a, what planners keep holds again, and all else is as it was.
 pub record Plans (s : Source) (q : Print) (o a : Held) : Type 0 where
-  pub ran : Reaches (length (o .ops)) (Kept s o) (seen s a) (planning q (seen s o))
+  pub ran : length (o .cells) ≡ 8 → Reaches (length (o .ops)) (Kept s o) (seen s a) (planning q (seen s o))
   pub sameOps : length (a .ops) ≡ length (o .ops)
+  pub frame : length (o .cells) ≡ 8 → Frame o a
   pub tidy : Kept s o → Kept s a
 
 -- ---- of what is lent

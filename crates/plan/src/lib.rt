@@ -72,7 +72,8 @@ fn wide(n: u32) -> usize
 fn add(ops: &mut [u32], cells: &mut [u32; 8], op: u32)
     ensures { λ _. ⌜ AddsAny ops cells (λ s. says (opItems s op)) ⌝ }
 {
-    if cells[STATUS] != GOING {
+    let status = cells[STATUS];
+    if status != GOING {
         return;
     }
     let n = cells[COUNT];
@@ -184,7 +185,7 @@ pub fn plan_mark(ops: &mut [u32], cells: &mut [u32; 8], m: Mark)
     add_numbered(ops, cells, items::MARK, m.0);
 }
 
-// Begins the run of the next list.
+// Begins the run of the next list, which takes its number where there was room.
 pub fn open_run(ops: &mut [u32], cells: &mut [u32; 8])
     ensures { λ _. ⌜ PlansAny ops cells openRun ⌝ }
 {
@@ -197,7 +198,9 @@ pub fn open_run(ops: &mut [u32], cells: &mut [u32; 8])
         return;
     }
     add(ops, cells, items::RUN + KINDS * k);
-    cells[RUNS] = k + 1;
+    if cells[STATUS] == GOING {
+        cells[RUNS] = k + 1;
+    }
 }
 
 // Ends a run.

@@ -17,7 +17,7 @@ add-numbered-spec =
     (λ c s k. carried-planned s _ _ k (passed s _ _ _ (c .if1 .taken)))  -- returns
     (λ c. search needs)  -- cast-if2
     (λ c. search needs)  -- element-write-cells
-    (λ c s k. carried-planned s _ _ k (operand-full s _ _ _ _ (search needs) (search needs) (k .far)))  -- returns-2
+    (λ c s k. carried-planned s _ _ k (operand-full s _ _ (search needs) _ _ (search needs) (k .far)))  -- returns-2
     (λ c. search needs)  -- cast-w
     (λ c. search needs)  -- mul-add
     (λ c. search needs)  -- add-add

@@ -11,5 +11,5 @@ stop-at-spec =
     (λ c s ops. stop-planned s _ (passed s ops _ _ (c .if1 .taken)))  -- returns
     (λ c. search needs)  -- element-write-cells
     (λ c. search needs)  -- element-write-cells-2
-    (λ c s ops. stop-planned s _ (stopping s ops _ _ (search needs)))  -- returns-2
+    (λ c s ops. stop-planned s _ (stopping s ops _ (search needs) _))  -- returns-2
     )
