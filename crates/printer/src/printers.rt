@@ -37,12 +37,12 @@ use super::rows::kinds_wanted;
 use super::rows::row_of;
 use children::between::Bounds;
 use children::between::bounds_between;
-use children::gap::AT_CHILD;
-use children::gap::AT_END;
 use children::gap::Span;
+use children::gap::at_child;
 use children::gap::gap;
 use children::gap::lead;
 use children::survey::Outline;
+use children::survey::is_stopped;
 use children::survey::survey;
 use children::survey::survey_after;
 use comments::CommentLocation;
@@ -233,12 +233,12 @@ fn values(
     }
     let w = kinds_of(c);
     let o = survey(image, index, w, z.loose, z.from, z.to);
-    if o.last.end != AT_END {
+    if is_stopped(o) {
         stop_at(cells, Element(o.last.to));
         return;
     }
     let mut s = gap(image, index, w, z.loose, false, z.from, z.to);
-    while s.end == AT_CHILD {
+    while at_child(s) {
         node(ops, cells, image, index, s.to);
         s = gap(image, index, w, z.loose, true, end_at(index, s.to), z.to);
     }
@@ -263,7 +263,7 @@ fn kids(
 {
     let w = kinds_of(c);
     let mut s = first;
-    while s.end == AT_CHILD {
+    while at_child(s) {
         let g = gap(image, index, w, loose, true, end_at(index, s.to), b);
         child(ops, cells, image, index, i, s, s.to, g, style, t);
         s = g;
@@ -322,7 +322,7 @@ fn list(ops: &mut [u32], cells: &mut [u32; 8], image: &[u8], index: &[u32], i: u
     let z = enclosed(image, index, i, opener(l), closer(l));
     let c = child_class(l);
     let o = survey(image, index, kinds_of(c), z.loose, z.from, z.to);
-    if o.last.end != AT_END {
+    if is_stopped(o) {
         stop_at(cells, Element(o.last.to));
         return;
     }
@@ -345,7 +345,7 @@ fn args(ops: &mut [u32], cells: &mut [u32; 8], image: &[u8], index: &[u32], i: u
 {
     let z = enclosed(image, index, i, Class::LParen, Class::RParen);
     let o = survey(image, index, kinds_of(Class::Arg), z.loose, z.from, z.to);
-    if o.last.end != AT_END {
+    if is_stopped(o) {
         stop_at(cells, Element(o.last.to));
         return;
     }
@@ -380,7 +380,7 @@ fn comp(ops: &mut [u32], cells: &mut [u32; 8], image: &[u8], index: &[u32], i: u
     let a = first_in(image, index, i);
     let y = bounds_between(image, index, brace, spec, a, end_at(index, i));
     let m = survey(image, index, kinds_of(Class::Member), y.loose, y.from, y.to);
-    if m.last.end != AT_END {
+    if is_stopped(m) {
         stop_at(cells, Element(m.last.to));
         return;
     }
@@ -405,7 +405,7 @@ fn body(
     let z = spec_bounds(image, index, i);
     let w = kinds_of(Class::CompSpec);
     let o = survey_after(image, index, w, z.loose, m.last, z.from, z.to);
-    if o.last.end != AT_END {
+    if is_stopped(o) {
         stop_at(cells, Element(o.last.to));
         return;
     }
@@ -447,7 +447,7 @@ fn specs(
 {
     let w = kinds_of(Class::CompSpec);
     let s = lead(image, index, w, z.loose, z.from, z.to);
-    if s.end != AT_CHILD {
+    if !at_child(s) {
         return;
     }
     let g = gap(image, index, w, z.loose, true, end_at(index, s.to), z.to);
@@ -496,7 +496,7 @@ fn binds(ops: &mut [u32], cells: &mut [u32; 8], image: &[u8], index: &[u32], i: 
 {
     let z = enclosed(image, index, i, Class::Local, Class::Semi);
     let o = survey(image, index, kinds_of(Class::Bind), z.loose, z.from, z.to);
-    if o.last.end != AT_END {
+    if is_stopped(o) {
         stop_at(cells, Element(o.last.to));
         return;
     }

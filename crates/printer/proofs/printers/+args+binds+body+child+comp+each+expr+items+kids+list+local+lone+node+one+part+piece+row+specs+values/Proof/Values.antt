@@ -1,5 +1,6 @@
 use Prim.Native.Nat.{ℕ, _-_}
 use borrow.Author.Needs.{needs}
+use Rattle.children.proofs.Uses.{child-is}
 use Rattle.printer.proofs.Walking.{survey-outlined, survey-foreign, walks-region, walks-less, Valuing, valuing-none, valuing-more, valuing-all, values-over, values-foreign}
 use Rattle.printer.proofs.Rowing.{kid-falls}
 use native.Mathlib.Omega.{arith}
@@ -21,7 +22,7 @@ returns : (t : ℕ) → lts.Need-returns (values-claims t) (values-at t) values.
 returns t c = by (values-over _ _ _ _ _ (c .if1 .taken)) idle
 
 returns-2 : (t : ℕ) → lts.Need-returns-2 (values-claims t) (values-at t) values.Post Inv-loop μ-loop
-returns-2 t c = by (values-foreign _ (survey-foreign _ (c .before .before .before .before .before .kinds-of .ensures) (c .before .before .before .before .survey .ensures) (c .before .before .if2 .taken))) (c .stop-at .ensures _ _)
+returns-2 t c = by (values-foreign _ (survey-foreign _ (c .before .before .before .before .before .kinds-of .ensures) (c .before .before .before .before .survey .ensures) (c .before .before .before .is-stopped .ensures) (c .before .before .if2 .taken))) (c .stop-at .ensures _ _)
 
 returns-3 : (t : ℕ) → lts.Need-returns-3 (values-claims t) (values-at t) values.Post Inv-loop μ-loop
 returns-3 t c =
@@ -29,21 +30,19 @@ returns-3 t c =
     let i1 = g .before in
     let o = i1 .before .before in
     let k = o .before in
-    valuing-all _ (k .kinds-of .ensures) (g .gap .ensures) (survey-outlined _ (k .kinds-of .ensures) (o .survey .ensures) (i1 .if2 .left)) (c .before .before .loop .inv) (c .if3 .left)
+    valuing-all _ (k .kinds-of .ensures) (g .gap .ensures) (survey-outlined _ (k .kinds-of .ensures) (o .survey .ensures) (i1 .before .is-stopped .ensures) (i1 .if2 .left)) (c .before .before .loop .inv) (c .before .at-child .ensures) (c .if3 .left)
 
 node-asked : (t : ℕ) → lts.Need-node-requires (values-claims t) (values-at t) values.Post Inv-loop μ-loop
 node-asked t c κs =
     let s = c .before .before .before .before .before .before .before .before .before .before .before .before .before .before .before in
-    let k = walks-kid (c .before .before .before .before .loop .inv .walks) (c .before .before .if3 .taken) in
+    let k = walks-kid (c .before .before .before .before .loop .inv .walks) (child-is _ (c .before .before .before .at-child .ensures) (c .before .before .if3 .taken)) in
     (kid-falls 0 k (omega (arith, s .pre .0)), kid-at k)
 
 holds : (t : ℕ) → lts.Need-loop-holds (values-claims t) (values-at t) values.Post Inv-loop μ-loop
 holds t c =
-    let i1 = c .before in
-    let o = i1 .before .before in
-    let k = o .before in
+    let k = c .before .before .before .before in
     let s = k .before .before .before .before .before .before in
-    valuing-none _ (s .pre .1) (k .kinds-of .ensures) (c .gap .ensures) (survey-outlined _ (k .kinds-of .ensures) (o .survey .ensures) (i1 .if2 .left))
+    valuing-none _ (s .pre .1) (k .kinds-of .ensures) (c .gap .ensures)
 
 pub values-closed : {M : Type 1} (t : ℕ) → lts.Closed (values-claims t) (values-at t) values.Post M
 values-closed t =
@@ -56,10 +55,12 @@ values-closed t =
     (returns t)  -- returns
     (λ c κs. search needs)  -- kinds-of-requires
     (λ c κs. search needs)  -- survey-requires
+    (λ c κs. search needs)  -- is-stopped-requires
     (λ c κs. search needs)  -- stop-at-requires
     (returns-2 t)  -- returns-2
     (λ c κs. search needs)  -- gap-requires
     (holds t)  -- loop-holds
+    (λ c κs. search needs)  -- at-child-requires
     (node-asked t)  -- node-requires
     (λ c κs. search needs)  -- end-at-requires
     (λ c κs. search walks-region)  -- gap-requires-2
