@@ -123,32 +123,32 @@ module _ {image index : List ℕ} {i : ℕ} {w : Kinds} {loose : Bool} {b : ℕ}
 
 -- ---- children without what stands around them
 
--- The values from the gap s on are still to be printed, of those from the gap s₀ on.
-pub record Valuing (image index : List ℕ) (i : ℕ) (w : Kinds) (loose : Bool) (b : ℕ) (s₀ : Span) (o a : Held) (s : Span) : Type 0 where
-  pub walks : Walks image index i w loose b s
-  pub goes : Goes (sourceAt image index) (valued (under image i) (spanned image index w loose b s₀)) (valued (under image i) (spanned image index w loose b s)) o a
+-- The values from the gap s on are still to be printed, of those from the gap s₀ on, whatever element the reading is of.
+pub record Valuing (image index : List ℕ) (w : Kinds) (z : Bounds) (s₀ : Span) (o a : Held) (s : Span) : Type 0 where
+  pub walks : {i : ℕ} → Within image index i z → Walks image index i w (z .loose) (z .to) s
+  pub goes : {i : ℕ} → Within image index i z
+      → Goes (sourceAt image index) (valued (under image i) (spanned image index w (z .loose) (z .to) s₀)) (valued (under image i) (spanned image index w (z .loose) (z .to) s)) o a
 
-module _ {image index : List ℕ} {i : ℕ} {w : Kinds} {s : Span} {o : Held} where
-  pub valuing-more : {loose : Bool} {b : ℕ} {s₀ g : Span} {a d : Held} {next : ℕ} {v : Bool} → Valuing image index i w loose b s₀ o a s → v ≡ isChild (s .end) → v ≡ true → next ≡ endAt index (s .to)
-      → Spans image index w loose true next b g → Plans (sourceAt image index) (printOf image (s .to)) a d → Valuing image index i w loose b s₀ o d g
-  valuing-more h j e q k p =
+module _ {image index : List ℕ} {w : Kinds} {z : Bounds} {s : Span} {o : Held} where
+  pub valuing-none : (c : Class) → w ≡ kinds c → Spans image index w (z .loose) false (z .from) (z .to) s → Valuing image index w z s o o s
+  valuing-none c k p = record { walks = λ h. rw k (walks-first c h (rw k at p)); goes = λ h. goes-none _ o }
+
+  pub valuing-more : {s₀ g : Span} {a d : Held} {next : ℕ} {v : Bool} → Valuing image index w z s₀ o a s → v ≡ isChild (s .end) → v ≡ true → next ≡ endAt index (s .to)
+      → Spans image index w (z .loose) true next (z .to) g → Plans (sourceAt image index) (printOf image (s .to)) a d → Valuing image index w z s₀ o d g
+  valuing-more r j e q k p =
       let d = child-is (s .end) j e in
       record {
-        walks = walks-next (h .walks) d q k;
-        goes = goes-more (h .goes) (value-next s d q k (under image i)) (by (kid-print (walks-kid (h .walks) d)) p);
+        walks = λ h. walks-next (r .walks h) d q k;
+        goes = λ h. goes-more (r .goes h) (value-next s d q k (under image _)) (by (kid-print (walks-kid (r .walks h) d)) p);
       }
 
-module _ {image index : List ℕ} {i : ℕ} {w : Kinds} {z : Bounds} {s : Span} {o : Held} where
-  pub valuing-none : (c : Class) → Within image index i z → w ≡ kinds c → Spans image index w (z .loose) false (z .from) (z .to) s → Valuing image index i w (z .loose) (z .to) s o o s
-  valuing-none c h k p = record { walks = rw k (walks-first c h (rw k at p)); goes = goes-none _ o }
-
   -- the values of a reading
-  pub valuing-all : (c : Class) {s₀ : Span} {a : Held} {out : Outline} {v : Bool} → w ≡ kinds c → Spans image index w (z .loose) false (z .from) (z .to) s₀ → Outlined image index (readAt image index c z nothing) out
-      → Valuing image index i w (z .loose) (z .to) s₀ o a s → v ≡ isChild (s .end) → v ≡ false → Plans (sourceAt image index) (valuesOf (under image i) (readAt image index c z nothing)) o a
+  pub valuing-all : (c : Class) {i : ℕ} {s₀ : Span} {a : Held} {out : Outline} {v : Bool} → Within image index i z → w ≡ kinds c → Spans image index w (z .loose) false (z .from) (z .to) s₀
+      → Outlined image index (readAt image index c z nothing) out → Valuing image index w z s₀ o a s → v ≡ isChild (s .end) → v ≡ false → Plans (sourceAt image index) (valuesOf (under image i) (readAt image index c z nothing)) o a
   unfolding valuesOf
-  valuing-all c k p x h j e =
+  valuing-all c {i} n k p x h j e =
       by (rw (x .is, value-read (under image i) _ (sym (whole c (z .loose) _) ∙ x .is), ← k, p .read))
-      (goes-all (h .goes) (value-none index image w (z .loose) (z .to) s (under image i) j e))
+      (goes-all (h .goes n) (value-none index image w (z .loose) (z .to) s (under image i) j e))
 
 -- no element
 pub values-over : (pr : ℕ → Print) (c : Class) (index image : List ℕ) (z : Bounds) → z .to ≤ z .from → valuesOf pr (readAt image index c z nothing) ≡ none

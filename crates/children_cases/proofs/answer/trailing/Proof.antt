@@ -23,7 +23,7 @@ trailing-spec =
     (λ c κs. search needs)  -- mix-requires-2
     (λ c κs. search needs)  -- mix-waiting-requires
     (λ c κs. search needs)  -- end-at-requires
-    (λ c κs. lead-next (c .before .before .before .before .before .before .before .lead .ensures) _ (child-is _ (c .before .before .before .before .before .before .at-child .ensures) (not-false _ (c .before .before .before .before .before .if2 .left))) (c .end-at .ensures))  -- gap-requires-2
+    (λ c κs. lead-next (c .before .before .before .before .before .before .before .before .lead .ensures) _ (child-is _ (c .before .before .before .before .before .before .before .at-child .ensures) (not-false _ (c .before .before .before .before .before .before .if2 .left))) (c .end-at .ensures))  -- gap-requires-2
     (λ c κs. search needs)  -- mix-inline-requires
     (λ c κs. walk-from (c .before .gap2 .ensures))  -- mix-walk-requires
     (λ c. search needs)  -- returns-3

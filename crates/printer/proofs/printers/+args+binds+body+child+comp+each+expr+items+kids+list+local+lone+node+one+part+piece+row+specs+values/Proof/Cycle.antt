@@ -111,61 +111,61 @@ use Rattle.tree.proofs.class.kinds_of.Reads as kinds-of-reads
 
 -- six times the elements under the node, and a rank: a printer that calls another at the same node has the higher one
 abbrev pub μ-args : Measures 4 args-kinds.ps ℕ
-μ-args κs a = size (a .1 .1 .1 .0 .now) (a .1 .1 .1 .1 .0) * 6 + 3
+μ-args κs a = size (a .1 .1 .1 .0 .now) (a .1 .1 .1 .1 .0 .0) * 6 + 3
 
 abbrev pub μ-binds : Measures 4 binds-kinds.ps ℕ
-μ-binds κs a = size (a .1 .1 .1 .0 .now) (a .1 .1 .1 .1 .0) * 6 + 3
+μ-binds κs a = size (a .1 .1 .1 .0 .now) (a .1 .1 .1 .1 .0 .0) * 6 + 3
 
 abbrev pub μ-body : Measures 4 body-kinds.ps ℕ
-μ-body κs a = size (a .1 .1 .1 .0 .now) (a .1 .1 .1 .1 .0) * 6 + 3
+μ-body κs a = size (a .1 .1 .1 .0 .now) (a .1 .1 .1 .1 .0 .0) * 6 + 3
 
 abbrev pub μ-child : Measures 4 child-kinds.ps ℕ
-μ-child κs a = size (a .1 .1 .1 .0 .now) (a .1 .1 .1 .1 .0) * 6
+μ-child κs a = size (a .1 .1 .1 .0 .now) (a .1 .1 .1 .1 .0 .0) * 6
 
 abbrev pub μ-comp : Measures 4 comp-kinds.ps ℕ
-μ-comp κs a = size (a .1 .1 .1 .0 .now) (a .1 .1 .1 .1 .0) * 6 + 4
+μ-comp κs a = size (a .1 .1 .1 .0 .now) (a .1 .1 .1 .1 .0 .0) * 6 + 4
 
 abbrev pub μ-each : Measures 4 each-kinds.ps ℕ
-μ-each κs a = size (a .1 .1 .1 .0 .now) (a .1 .1 .1 .1 .0) * 6 + 1
+μ-each κs a = size (a .1 .1 .1 .0 .now) (a .1 .1 .1 .1 .0 .0) * 6 + 1
 
 abbrev pub μ-expr : Measures 4 expr-kinds.ps ℕ
-μ-expr κs a = size (a .1 .1 .1 .0 .now) (a .1 .1 .1 .1 .0) * 6 + 3
+μ-expr κs a = size (a .1 .1 .1 .0 .now) (a .1 .1 .1 .1 .0 .0) * 6 + 3
 
 abbrev pub μ-items : Measures 4 items-kinds.ps ℕ
-μ-items κs a = size (a .1 .1 .1 .0 .now) (a .1 .1 .1 .1 .0) * 6 + 2
+μ-items κs a = size (a .1 .1 .1 .0 .now) (a .1 .1 .1 .1 .0 .0) * 6 + 2
 
 abbrev pub μ-kids : Measures 4 kids-kinds.ps ℕ
-μ-kids κs a = size (a .1 .1 .1 .0 .now) (a .1 .1 .1 .1 .0) * 6 + 1
+μ-kids κs a = size (a .1 .1 .1 .0 .now) (a .1 .1 .1 .1 .0 .0) * 6 + 1
 
 abbrev pub μ-list : Measures 4 list-kinds.ps ℕ
-μ-list κs a = size (a .1 .1 .1 .0 .now) (a .1 .1 .1 .1 .0) * 6 + 3
+μ-list κs a = size (a .1 .1 .1 .0 .now) (a .1 .1 .1 .1 .0 .0) * 6 + 3
 
 abbrev pub μ-local : Measures 4 local-kinds.ps ℕ
-μ-local κs a = size (a .1 .1 .1 .0 .now) (a .1 .1 .1 .1 .0) * 6 + 4
+μ-local κs a = size (a .1 .1 .1 .0 .now) (a .1 .1 .1 .1 .0 .0) * 6 + 4
 
 abbrev pub μ-lone : Measures 4 lone-kinds.ps ℕ
-μ-lone κs a = size (a .1 .1 .1 .0 .now) (a .1 .1 .1 .1 .0) * 6
+μ-lone κs a = size (a .1 .1 .1 .0 .now) (a .1 .1 .1 .1 .0 .0) * 6
 
 abbrev pub μ-node : Measures 4 node-kinds.ps ℕ
-μ-node κs a = size (a .1 .1 .1 .0 .now) (a .1 .1 .1 .1 .0) * 6 + 5
+μ-node κs a = size (a .1 .1 .1 .0 .now) (a .1 .1 .1 .1 .0 .0) * 6 + 5
 
 abbrev pub μ-one : Measures 4 one-kinds.ps ℕ
-μ-one κs a = size (a .1 .1 .1 .0 .now) (a .1 .1 .1 .1 .0) * 6
+μ-one κs a = size (a .1 .1 .1 .0 .now) (a .1 .1 .1 .1 .0 .0) * 6
 
 abbrev pub μ-part : Measures 4 part-kinds.ps ℕ
-μ-part κs a = size (a .1 .1 .1 .0 .now) (a .1 .1 .1 .1 .0) * 6
+μ-part κs a = size (a .1 .1 .1 .0 .now) (a .1 .1 .1 .1 .0 .0) * 6
 
 abbrev pub μ-piece : Measures 4 piece-kinds.ps ℕ
-μ-piece κs a = size (a .1 .1 .1 .0 .now) (a .1 .1 .1 .1 .0) * 6 + 2
+μ-piece κs a = size (a .1 .1 .1 .0 .now) (a .1 .1 .1 .1 .0 .0) * 6 + 2
 
 abbrev pub μ-row : Measures 4 row-kinds.ps ℕ
-μ-row κs a = size (a .1 .1 .1 .0 .now) (a .1 .1 .1 .1 .0) * 6 + 3
+μ-row κs a = size (a .1 .1 .1 .0 .now) (a .1 .1 .1 .1 .0 .0) * 6 + 3
 
 abbrev pub μ-specs : Measures 4 specs-kinds.ps ℕ
-μ-specs κs a = size (a .1 .1 .1 .0 .now) (a .1 .1 .1 .1 .0) * 6 + 2
+μ-specs κs a = size (a .1 .1 .1 .0 .now) (a .1 .1 .1 .1 .0 .0) * 6 + 2
 
 abbrev pub μ-values : Measures 4 values-kinds.ps ℕ
-μ-values κs a = size (a .1 .1 .1 .0 .now) (a .1 .1 .1 .1 .0) * 6
+μ-values κs a = size (a .1 .1 .1 .0 .now) (a .1 .1 .1 .1 .0 .0) * 6
 
 abbrev pub args-at : ℕ → In 4 args-kinds.ps
 args-at t = and 4 args-kinds.ps (is 4 args-kinds.ps μ-args t) args.Pre

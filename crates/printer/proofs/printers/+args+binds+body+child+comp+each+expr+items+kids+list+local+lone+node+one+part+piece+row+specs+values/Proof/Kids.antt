@@ -10,7 +10,7 @@ use Rattle.printer.proofs.printers.+args+binds+body+child+comp+each+exp
 use Rattle.printer.proofs.Readings.{walks-kid}
 
 abbrev Inv-loop : lts.InvT-loop
-Inv-loop ops₀ cells₀ image index i loose b style t w s₀ ops cells s = Walking image index i w loose b style (conditionTest t) s₀ (held ops₀ cells₀) (held ops cells) s
+Inv-loop ops₀ cells₀ image index i loose b style t w s₀ ops cells s = Walking image index (i .0) w loose b style (conditionTest t) s₀ (held ops₀ cells₀) (held ops cells) s
 
 abbrev μ-loop : lts.MeasureT-loop
 μ-loop ops₀ cells₀ image index i loose b style t w s₀ ops cells s = b - s .to
