@@ -22,7 +22,7 @@ use Rattle.tree.proofs.Siblings.{region-part, region-past, region-next, parts-o
 use Rattle.children.specs.declared.around.Notes.{Notes}
 use Rattle.children.specs.Reading.{upTo, behindPart, upToPart, between, foreignAt, withTrivia, strict, leading, triviaBefore, triviaAfter}
 use Rattle.children.specs.Stretch.{notes, Jumps, here, Stretch}
-use Rattle.children.specs.Between.{fromAt, toAt, Ends, Bounded, aroundAt, Beside, isKept, foreignIn, Led}
+use Rattle.children.specs.Between.{fromAt, toAt, Ends, Bounded, aroundAt, leadingTo, beforeTo, Beside, isKept, foreignIn, Led}
 use Rattle.children.proofs.Walks.{parts-more, all-more}
 use Rattle.children.proofs.Among.{Among, among, among-in, among-behind, among-upto, region-behind, region-upto, region-none}
 use Rattle.children.proofs.Stretch.{note-kinds, jumps-le, jumps-next, jumps-behind}
@@ -142,8 +142,8 @@ pub kept-is : (k : ℕ) {u v : Bool} {w : Kinds} → w ≡ notes → u ≡ oneOf
 unfolding isKept
 kept-is k e p q = rw (p, e, q)
 
-pub strict-beside : {index image : List ℕ} {a b : ℕ} {f : Found} → Region image index a b → found f ≡ foreignIn (partsFrom image index a b) → Beside image index (strict (partsFrom image index a b)) (record { from = a; to = b; foreign = f })
-strict-beside r e = record { region = r; read = strict-is _ ∙ rw e }
+pub strict-beside : {index image : List ℕ} {a b : ℕ} {f : Found} → Region image index a b → found f ≡ foreignIn (partsFrom image index a b) → Beside image index (strict (partsFrom image index a b)) a b (record { from = a; to = b; foreign = f })
+strict-beside r e = record { begins = refl; ends = refl; region = r; read = strict-is _ ∙ rw e }
 
 -- The first foreign element of all is that of those that are left.
 pub record Seeking (index image : List ℕ) (a b j : ℕ) : Type 0 where
@@ -178,29 +178,35 @@ pub record Heading (index image : List ℕ) (a b j : ℕ) : Type 0 where
   pub region : Region image index j b
   pub done : Jumps index (region .n) a j
   pub rest : leading (partsFrom image index a b) ≡ allOf notes (partsFrom image index a j) ++ leading (partsFrom image index j b)
+  pub ends : leadingTo index a (partsFrom image index a b) ≡ leadingTo index j (partsFrom image index j b)
 
 pub heading-none : {index image : List ℕ} {a b : ℕ} → Region image index a b → Heading index image a b a
 unfolding allOf
-heading-none {index} {image} {a} r = record { region = r; done = here; rest = rw (parts-over index image a a (omega arith)) }
+heading-none {index} {image} {a} r = record { region = r; done = here; rest = rw (parts-over index image a a (omega arith)); ends = refl }
 
 module _ {index image : List ℕ} {a b j : ℕ} (K : Heading index image a b j) where
-  led : leading (partsFrom image index j b) ≡ [] → Led image index a b j
-  led e = record {
+  led : leading (partsFrom image index j b) ≡ [] → leadingTo index j (partsFrom image index j b) ≡ j → Led image index a b j
+  led e f = record {
+    ends = sym (K .ends ∙ f);
     region = record { n = K .region .n; table = K .region .table; begins = omega (arith, jumps-le (K .region .table) (K .done), K .region .begins); ends = K .region .begins };
     read = K .rest ∙ rw (e, append-nil (allOf notes (partsFrom image index a j)));
   }
 
   pub heading-all : b ≤ j → Led image index a b j
-  unfolding leading
-  heading-all h = led (rw (parts-over index image j b h))
+  unfolding leading leadingTo
+  heading-all h = led (rw (parts-over index image j b h)) (rw (parts-over index image j b h))
 
   module _ (lt : j < b) {w : Kinds} {k : ℕ} {t : Bool} (z : w ≡ notes) (p : k ≡ kindAt index j) (q : t ≡ oneOf w k) where
     next-is : leading (partsFrom image index j b) ≡ cond t (partAt image index j ∷ leading (partsFrom image index (endAt index j) b)) []
     unfolding leading
     next-is = rw (region-part (K .region) lt, note-kinds (partAt image index j), q, z, p)
 
+    to-is : leadingTo index j (partsFrom image index j b) ≡ cond t (leadingTo index (endAt index j) (partsFrom image index (endAt index j) b)) j
+    unfolding leadingTo
+    to-is = rw (region-part (K .region) lt, note-kinds (partAt image index j), q, z, p)
+
     pub heading-stop : not t ≡ true → Led image index a b j
-    heading-stop h = led (next-is ∙ rw (not-true t h))
+    heading-stop h = led (next-is ∙ rw (not-true t h)) (to-is ∙ rw (not-true t h))
 
     noted : t ≡ true → oneOf notes (kindAt index j) ≡ true
     noted h = rw (← z, ← p, ← q) h
@@ -215,6 +221,7 @@ module _ {index image : List ℕ} {a b j : ℕ} (K : Heading index image a b j) 
         noted (not-false t h),
         append-assoc,
       ) (K .rest ∙ rw (next-is, not-false t h));
+      ends = K .ends ∙ to-is ∙ rw (not-false t h);
     })
 
     pub heading-less : {next : ℕ} → next ≡ endAt index j → b - next < b - j
@@ -233,23 +240,23 @@ module _ {index image : List ℕ} {a b : ℕ} {e : Found} (E : Ends image index 
     pub after-region : {from : ℕ} → from ≡ endAt index (n .0) → Region image index from b
     after-region p = rw p (region-behind spot)
 
-    pub before-some : {r : Notes} → Beside image index (strict (partsFrom image index a (n .0))) r → (x : Option Part) → numberOf x ≡ found e → Beside image index (triviaBefore x (partsFrom image index a b)) r
+    pub before-some : {r : Notes} → Beside image index (strict (partsFrom image index a (n .0))) a (n .0) r → (x : Option Part) → numberOf x ≡ found e → Beside image index (triviaBefore x (partsFrom image index a b)) a (beforeTo index (found e) a (partsFrom image index a b)) r
     unfolding triviaBefore
     before-some h none p = let z : _≡_ {A = ℕ} 0 1 = cc in absurd (omega arith)
-    before-some h (some x) p = let m : x .number ≡ n .0 = cc in rw (m, among-upto spot) h
+    before-some h (some x) p = let m : x .number ≡ n .0 = cc in rw (m, among-upto spot, q) h
 
-    pub after-some : {r : Notes} {from : ℕ} → from ≡ endAt index (n .0) → Beside image index (strict (partsFrom image index from b)) r → (x : Option Part) → numberOf x ≡ found e → Beside image index (triviaAfter x (partsFrom image index a b)) r
+    pub after-some : {r : Notes} {from : ℕ} → from ≡ endAt index (n .0) → Beside image index (strict (partsFrom image index from b)) from b r → (x : Option Part) → numberOf x ≡ found e → Beside image index (triviaAfter x (partsFrom image index a b)) (fromAt index (found e) b) b r
     unfolding triviaAfter
     after-some f h none p = let z : _≡_ {A = ℕ} 0 1 = cc in absurd (omega arith)
-    after-some f h (some x) p = let m : x .number ≡ n .0 = cc in rw (m, among-behind spot, ← f) h
+    after-some f h (some x) p = let m : x .number ≡ n .0 = cc in rw (m, among-behind spot, q, ← f) h
 
   module _ (q : e ≡ Nothing) where
-    pub before-none : {to : ℕ} → Led image index a b to → (x : Option Part) → numberOf x ≡ found e → Beside image index (triviaBefore x (partsFrom image index a b)) (record { from = a; to = to; foreign = Nothing })
+    pub before-none : {to : ℕ} → Led image index a b to → (x : Option Part) → numberOf x ≡ found e → Beside image index (triviaBefore x (partsFrom image index a b)) a (beforeTo index (found e) a (partsFrom image index a b)) (record { from = a; to = to; foreign = Nothing })
     unfolding triviaBefore
-    before-none l none p = record { region = l .region; read = rw (l .read) }
+    before-none l none p = record { begins = refl; ends = rw q (l .ends); region = l .region; read = rw (l .read) }
     before-none l (some x) p = let z : _≡_ {A = ℕ} 0 1 = cc in absurd (omega arith)
 
-    pub after-none : (x : Option Part) → numberOf x ≡ found e → Beside image index (triviaAfter x (partsFrom image index a b)) (record { from = b; to = b; foreign = Nothing })
+    pub after-none : (x : Option Part) → numberOf x ≡ found e → Beside image index (triviaAfter x (partsFrom image index a b)) (fromAt index (found e) b) b (record { from = b; to = b; foreign = Nothing })
     unfolding triviaAfter allOf
-    after-none none p = record { region = record { n = E .region .n; table = E .region .table; begins = E .region .ends; ends = E .region .ends }; read = rw (parts-over index image b b (omega arith)) }
+    after-none none p = record { begins = rw q; ends = refl; region = record { n = E .region .n; table = E .region .table; begins = E .region .ends; ends = E .region .ends }; read = rw (parts-over index image b b (omega arith)) }
     after-none (some x) p = let z : _≡_ {A = ℕ} 0 1 = cc in absurd (omega arith)

@@ -24,7 +24,7 @@ behindGap g p = record { done = p .done; current = addAll (g .inline) (p .curren
 
 -- the reading that gaps make, from a pass on
 unfoldable pub glued : Pass → Gaps → Reading
-glued p (stopped n) = foreign n
+glued p (stopped g n) = foreign n
 glued p (ending g) = finished (behindGap g p)
 glued p (Gaps.child g x gs) = glued (childFrom (p .waiting ++ g .waiting) x (behindGap g p)) gs
 
@@ -35,8 +35,8 @@ passing ds c ws s h = record { done = ds; current = c; waiting = ws; startedNext
 glued-widen : (ds : List Child) (c : Option Child) (ws : List Part) (s h s′ h′ : Bool) (xs ys : List Part) (gs : Gaps)
     → glued (passing ds c ws s h) (widen xs ys gs) ≡ glued (passing ds (addAll xs c) (ws ++ ys) s′ h′) gs
 unfolding glued widen
-glued-widen ds none ws s h s′ h′ xs ys (stopped n) = refl
-glued-widen ds (some c) ws s h s′ h′ xs ys (stopped n) = refl
+glued-widen ds none ws s h s′ h′ xs ys (stopped g n) = refl
+glued-widen ds (some c) ws s h s′ h′ xs ys (stopped g n) = refl
 glued-widen ds none ws s h s′ h′ xs ys (ending g) = rw (append-assoc ws ys (g .waiting))
 glued-widen ds (some c) ws s h s′ h′ xs ys (ending g) = rw (append-assoc ws ys (g .waiting), append-assoc (c .inline) xs (g .inline))
 glued-widen ds none ws s h s′ h′ xs ys (Gaps.child g x gs) = rw (append-assoc ws ys (g .waiting))

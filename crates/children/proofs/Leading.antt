@@ -8,8 +8,10 @@ use lib.ListN.{length}
 use Rattle.tree.specs.declared.class.Kinds.{Kinds}
 use Rattle.tree.specs.Class.{is}
 use Rattle.tree.specs.Tree.{Part}
-use Rattle.children.specs.Gaps.{Go, Turn, turn, code, widen, gaps, spaceIn}
+use Rattle.children.specs.Gaps.{Go, Turn, turn, code, widen, gaps, endBy, spaceIn}
 use Rattle.tree.specs.Index.{Table, Region, partsFrom, partAt, kindAt, endAt}
+use Rattle.children.specs.declared.gap.End.{End}
+use Rattle.children.specs.declared.gap.End.the-variants as End
 use Rattle.children.specs.declared.gap.Span.{Span}
 use Rattle.children.specs.declared.tally.Tally.{Tally}
 use Rattle.children.specs.Stretch.{Jumps, here, waitingIn}
@@ -51,7 +53,7 @@ module _ {index image : List ℕ} {w : Kinds} {l : Bool} {from b j : ℕ} {t : T
   abbrev tab : Table image index (K .region .n)
   tab = K .region .table
 
-  laid : {e : Bool} {d : ℕ} → Lies image index (record { from = from; cut = j; to = j; had = e; end = d; tally = t })
+  laid : {e : Bool} {d : End} → Lies image index (record { from = from; cut = j; to = j; had = e; end = d; tally = t })
   laid = record {
     first = record { n = K .region .n; table = tab; upto = K .region .begins; jumps = K .done };
     second = record { n = K .region .n; table = tab; upto = K .region .begins; jumps = here };
@@ -89,20 +91,20 @@ module _ {index image : List ℕ} {w : Kinds} {l : Bool} {from b j : ℕ} {t : T
         go G.foreign q y e = absurd (omega arith)
 
     abbrev Ended : ℕ → Type 0
-    Ended c = led image index w l b (record { from = from; cut = j; to = j; had = false; end = c - 6; tally = t }) ≡ widen [] (waitingIn image index from j j) (leads w l (partsFrom image index j b))
+    Ended c = led image index w l b (record { from = from; cut = j; to = j; had = false; end = endBy c; tally = t }) ≡ widen [] (waitingIn image index from j j) (leads w l (partsFrom image index j b))
 
     ended : (c : ℕ) → c ≡ code (turn w l true false x) → 6 ≤ c → Ended c
-    unfolding led widen
+    unfolding led widen endBy
     ended c e k = go (turn w l true false x) refl e
       where
         go : (T : Turn) → turn w l true false x ≡ T → c ≡ code T → Ended c
         go (G.on g) q e = absurd (omega (arith, go-le g))
         go G.child q e = rw (leads-next tab w l j b (K .region .ends) lt, q, e, append-nil (waitingIn image index from j j))
         go G.out q e = rw (leads-next tab w l j b (K .region .ends) lt, q, e, append-nil (waitingIn image index from j j))
-        go G.foreign q e = rw (leads-next tab w l j b (K .region .ends) lt, q, e)
+        go G.foreign q e = rw (leads-next tab w l j b (K .region .ends) lt, q, e, append-nil (waitingIn image index from j j))
 
-    pub leading-stop : (c : ℕ) (r : Span) → c ≡ code (turn w l true false x) → 6 ≤ c → r ≡ record { from = from; cut = j; to = j; had = false; end = c - 6; tally = t } → Leads image index w l from b r
-    leading-stop c r e k z = rw z (record {
+    pub leading-stop : (c : ℕ) (d : End) (r : Span) → c ≡ code (turn w l true false x) → 6 ≤ c → d ≡ endBy c → r ≡ record { from = from; cut = j; to = j; had = false; end = d; tally = t } → Leads image index w l from b r
+    leading-stop c d r e k o z = rw (z, o) (record {
       begins = refl;
       cuts = refl;
       lies = laid;
@@ -114,16 +116,16 @@ module _ {index image : List ℕ} {w : Kinds} {l : Bool} {from b j : ℕ} {t : T
     pub leading-less : (next : ℕ) → next ≡ endAt index j → b - next < b - j
     leading-less next e = omega (arith, tab .past j in-n)
 
-  over : b ≤ j → led image index w l b (record { from = from; cut = j; to = j; had = false; end = 1; tally = t }) ≡ widen [] (waitingIn image index from j j) (leads w l (partsFrom image index j b))
+  over : b ≤ j → led image index w l b (record { from = from; cut = j; to = j; had = false; end = End.Last; tally = t }) ≡ widen [] (waitingIn image index from j j) (leads w l (partsFrom image index j b))
   unfolding led widen leads
   over k = rw (parts-over index image j b k, append-nil (waitingIn image index from j j))
 
-  pub leading-all : (r : Span) → b ≤ j → r ≡ record { from = from; cut = j; to = j; had = false; end = 1; tally = t } → Leads image index w l from b r
+  pub leading-all : (r : Span) → b ≤ j → r ≡ record { from = from; cut = j; to = j; had = false; end = End.Last; tally = t } → Leads image index w l from b r
   leading-all r k z = rw z (record {
     begins = refl;
     cuts = refl;
     lies = laid;
     onward = K .region;
-    inside = λ q. absurd (omega arith);
+    inside = λ q. let z : _≡_ {A = ℕ} 0 1 = cc in absurd (omega arith);
     read = K .rest ∙ sym (over k);
   })

@@ -9,8 +9,10 @@ use Rattle.tree.specs.declared.class.Kinds.{Kinds}
 use Rattle.tree.specs.Class.{is, oneOf}
 use Rattle.tree.specs.Tree.{Part}
 use Rattle.children.specs.Reading.{isNote}
-use Rattle.children.specs.Gaps.{Go, Turn, turn, code, goCode, triviaTurn, otherTurn, breaks, widen, gaps, turned, startedBy, hadBy, followsBy, startedAfter, hadAfter, addsInline, addsWaiting, ending, spaceIn}
+use Rattle.children.specs.Gaps.{Go, Turn, turn, code, goCode, triviaTurn, otherTurn, breaks, widen, gaps, turned, startedBy, hadBy, followsBy, startedAfter, hadAfter, addsInline, addsWaiting, ending, endBy, spaceIn}
 use Rattle.tree.specs.Index.{Table, Region, partsFrom, partAt, kindAt, endAt}
+use Rattle.children.specs.declared.gap.End.{End}
+use Rattle.children.specs.declared.gap.End.the-variants as End
 use Rattle.children.specs.declared.gap.Span.{Span}
 use Rattle.children.specs.declared.tally.Tally.{Tally}
 use Rattle.children.specs.Stretch.{Jumps, here, inlineIn, waitingIn}
@@ -111,7 +113,7 @@ pub spanning-none : (index image : List ℕ) (w : Kinds) (l a : Bool) (from b : 
 spanning-none index image w l a from b t r e =
     rw e (record { region = r; first = here; second = here; follows = λ q. refl; tally = tallied-none index image from; rest = rw (inline-none, waiting-none, widen-none) })
 
-laid : {index image : List ℕ} {w : Kinds} {l a : Bool} {from b cut j : ℕ} {s h e : Bool} {t : Tally} {d : ℕ} → Spanning index image w l a from b cut j s h t → Lies image index (record { from = from; cut = cut; to = j; had = e; end = d; tally = t })
+laid : {index image : List ℕ} {w : Kinds} {l a : Bool} {from b cut j : ℕ} {s h e : Bool} {t : Tally} {d : End} → Spanning index image w l a from b cut j s h t → Lies image index (record { from = from; cut = cut; to = j; had = e; end = d; tally = t })
 laid K = record {
   first = record { n = K .region .n; table = K .region .table; upto = omega (arith, K .region .begins, jumps-le (K .region .table) (K .second)); jumps = K .first };
   second = record { n = K .region .n; table = K .region .table; upto = K .region .begins; jumps = K .second };
@@ -195,20 +197,20 @@ module _ {index image : List ℕ} {w : Kinds} {l a : Bool} {from b cut j : ℕ} 
   spanning-more c next cut′ k m f s′ h′ t′ i e lt n p q u v o z = rw (z, o, i, q, p, n, u, v) (stepped c e lt)
 
   abbrev Ended : ℕ → Type 0
-  Ended c = spanned image index w l b (record { from = from; cut = cut; to = j; had = h; end = c - 6; tally = t }) ≡ widen (inlineIn image index from cut) (waitingIn image index from cut j) (gaps w l s h (partsFrom image index j b))
+  Ended c = spanned image index w l b (record { from = from; cut = cut; to = j; had = h; end = endBy c; tally = t }) ≡ widen (inlineIn image index from cut) (waitingIn image index from cut j) (gaps w l s h (partsFrom image index j b))
 
   ended : (c : ℕ) → c ≡ code (turn w l s h x) → 6 ≤ c → Ended c
-  unfolding spanned widen
+  unfolding spanned widen endBy
   ended c e k = go (turn w l s h x) refl (said w l s h x) e
     where
       go : (T : Turn) → turn w l s h x ≡ T → Saying T s x → c ≡ code T → Ended c
       go (G.on g) q y e = absurd (omega (arith, go-le g))
       go G.child q y e = rw (gaps-next tab w l s h j b (K .region .ends) lt, q, e, append-nil (inlineIn image index from cut), append-nil (waitingIn image index from cut j))
       go G.out q y e = rw (gaps-next tab w l s h j b (K .region .ends) lt, q, e, append-nil (inlineIn image index from cut), append-nil (waitingIn image index from cut j))
-      go G.foreign q y e = rw (gaps-next tab w l s h j b (K .region .ends) lt, q, e)
+      go G.foreign q y e = rw (gaps-next tab w l s h j b (K .region .ends) lt, q, e, append-nil (inlineIn image index from cut), append-nil (waitingIn image index from cut j))
 
-  pub spanning-stop : (c : ℕ) (r : Span) → c ≡ code (turn w l s h x) → 6 ≤ c → r ≡ record { from = from; cut = cut; to = j; had = h; end = c - 6; tally = t } → Spans image index w l a from b r
-  spanning-stop c r e k z = rw z (record {
+  pub spanning-stop : (c : ℕ) (d : End) (r : Span) → c ≡ code (turn w l s h x) → 6 ≤ c → d ≡ endBy c → r ≡ record { from = from; cut = cut; to = j; had = h; end = d; tally = t } → Spans image index w l a from b r
+  spanning-stop c d r e k o z = rw (z, o) (record {
     begins = refl;
     lies = laid K;
     onward = K .region;
@@ -221,17 +223,17 @@ unfolding gaps
 gaps-none w l s h index image j b k = rw (parts-over index image j b k)
 
 over : (index image : List ℕ) (w : Kinds) (l : Bool) (from b cut j : ℕ) (s h : Bool) (t : Tally) → b ≤ j
-    → spanned image index w l b (record { from = from; cut = cut; to = j; had = h; end = 1; tally = t }) ≡ widen (inlineIn image index from cut) (waitingIn image index from cut j) (gaps w l s h (partsFrom image index j b))
+    → spanned image index w l b (record { from = from; cut = cut; to = j; had = h; end = End.Last; tally = t }) ≡ widen (inlineIn image index from cut) (waitingIn image index from cut j) (gaps w l s h (partsFrom image index j b))
 unfolding spanned widen
 over index image w l from b cut j s h t k = rw (gaps-none w l s h index image j b k, append-nil (inlineIn image index from cut), append-nil (waitingIn image index from cut j))
 
 pub spanning-all : {index image : List ℕ} {w : Kinds} {l a : Bool} {from b cut j : ℕ} {s h : Bool} {t : Tally} (r : Span) → Spanning index image w l a from b cut j s h t → b ≤ j
-    → r ≡ record { from = from; cut = cut; to = j; had = h; end = 1; tally = t } → Spans image index w l a from b r
+    → r ≡ record { from = from; cut = cut; to = j; had = h; end = End.Last; tally = t } → Spans image index w l a from b r
 spanning-all {index} {image} {w} {l} {a} {from} {b} {cut} {j} {s} {h} {t} r K k z = rw z (record {
   begins = refl;
   lies = laid K;
   onward = K .region;
-  inside = λ q. absurd (omega arith);
+  inside = λ q. let z : _≡_ {A = ℕ} 0 1 = cc in absurd (omega arith);
   read = K .rest ∙ sym (over index image w l from b cut j s h t k);
 })
 

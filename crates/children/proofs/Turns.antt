@@ -9,7 +9,8 @@ use borrow.Author.Tests.{le-leb, lt-leb, leb-true, eq-eqb, ne-eqb}
 use Rattle.tree.specs.declared.class.Kinds.{Kinds}
 use Rattle.tree.specs.Class.{from, oneOf, kinds}
 use Rattle.text.specs.Basic.{count}
-use Rattle.children.specs.Gaps.{turn, code, triviaTurn, otherTurn, spaceIn}
+use Rattle.children.specs.declared.gap.End.the-variants as End
+use Rattle.children.specs.Gaps.{turn, code, triviaTurn, otherTurn, endBy, spaceIn}
 use Rattle.tree.specs.Index.{kindAt, textAt, partAt}
 use Rattle.tree.specs.declared.class.Class.the-variants as Class
 use Rattle.children.specs.Gaps
@@ -45,6 +46,20 @@ feeds-known i t j k f p e q = rw (← e, eq-eqb k 64 q) at p
 -- what `tallied` requires: only whitespace has line feeds
 pub space-none : (i t : List ℕ) (j k f : ℕ) → f ≡ spaceIn (partAt t i j) → k ≡ kindAt i j → (k ≡ 64 → ⊥) → f ≡ 0
 space-none i t j k f p e q = p ∙ sym (space-no i t j k e q)
+
+-- ---- end_by
+
+pub end-child : {t : ℕ} → t ≡ 6 → End.Child ≡ endBy t
+unfolding endBy
+end-child {t} e = rw (eq-eqb t 6 e)
+
+pub end-last : {t : ℕ} → t ≡ 7 → End.Last ≡ endBy t
+unfolding endBy
+end-last {t} e = rw e
+
+pub end-foreign : {t : ℕ} → (t ≡ 6 → ⊥) → (t ≡ 7 → ⊥) → End.Foreign ≡ endBy t
+unfolding endBy
+end-foreign {t} p q = rw (ne-eqb t 6 p, ne-eqb t 7 q)
 
 -- ---- other_turn
 

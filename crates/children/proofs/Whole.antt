@@ -21,13 +21,13 @@ use Rattle.children.specs.Whole.{childAt, closedBy, preceded, readFrom, 
 
 -- the inline trivia of the first gap
 abbrev firstInline : Gaps → List Part
-firstInline (stopped n) = []
+firstInline (stopped g n) = g .inline
 firstInline (ending g) = g .inline
 firstInline (Gaps.child g x gs) = g .inline
 
 widen-bare : (ws : List Part) (gs : Gaps) → firstInline gs ≡ [] → firstInline (widen [] ws gs) ≡ []
 unfolding widen
-widen-bare ws (stopped n) h = refl
+widen-bare ws (stopped g n) h = h
 widen-bare ws (ending g) h = h
 widen-bare ws (Gaps.child g x gs) h = h
 
@@ -56,7 +56,7 @@ preceded-both cs ds (read es e) = rw (append-assoc cs ds es)
 -- from a child on
 pub glued-from : (gs : Gaps) (ds : List Child) (c : Child) (s h : Bool) → c .inline ≡ [] → glued (passing ds (some c) [] s h) gs ≡ preceded ds (readFrom c gs)
 unfolding glued readFrom
-glued-from (stopped n) ds c s h e = refl
+glued-from (stopped g n) ds c s h e = refl
 glued-from (ending g) ds c s h e = rw e
 glued-from (Gaps.child g x gs) ds c s h e = rw e (glued-from gs (ds ++ closedBy c g ∷ []) (childAt g x) false true refl ∙ preceded-both ds (closedBy c g ∷ []) (readFrom (childAt g x) gs))
 
@@ -67,7 +67,7 @@ preceded-none (read cs e) = refl
 
 glued-start : (gs : Gaps) → firstInline gs ≡ [] → glued (start none) gs ≡ readingOf gs
 unfolding glued readingOf
-glued-start (stopped n) e = refl
+glued-start (stopped g n) e = refl
 glued-start (ending g) e = rw e
 glued-start (Gaps.child g x gs) e = rw e (glued-from gs [] _ false true refl ∙ preceded-none _)
 
@@ -105,7 +105,7 @@ shifted-both k j m q (sums i p b t) = same-sums (k + (j + i)) (k + j + i) (m || 
 
 sums-from : (gs : Gaps) (c : Child) (k : ℕ) (m : Bool) → gapSums (suc k) (m || c .manyLines) gs ≡ shifted k m (sumsOf (readFrom c gs))
 unfolding gapSums readFrom sumsOf any
-sums-from (stopped n) c k m = refl
+sums-from (stopped g n) c k m = refl
 sums-from (ending g) c k m = same-sums (suc k) (k + 1) (m || c .manyLines) (m || (c .manyLines || false)) (leb 2 (newlinesAt g)) (g .waiting) (omega arith) (rw (or-false (c .manyLines)))
 sums-from (Gaps.child g x gs) c k m =
     sums-from gs (childAt g x) (suc k) (m || c .manyLines)
@@ -124,6 +124,6 @@ first-sums c gs = sums-from gs c 0 false ∙ shifted-none (sumsOf (readFrom c gs
 -- The survey of a reading's gaps is the survey of the reading.
 pub whole-sums : (gs : Gaps) → gapSums 0 false gs ≡ sumsOf (readingOf gs)
 unfolding gapSums readingOf sumsOf any
-whole-sums (stopped n) = refl
+whole-sums (stopped g n) = refl
 whole-sums (ending g) = refl
 whole-sums (Gaps.child g x gs) = first-sums (childAt g x) gs

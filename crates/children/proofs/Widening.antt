@@ -8,13 +8,13 @@ use Rattle.tree.specs.declared.class.Class.the-variants as Class
 -- nothing more in front
 pub widen-none : (gs : Gaps) → widen [] [] gs ≡ gs
 unfolding widen
-widen-none (stopped n) = refl
+widen-none (stopped g n) = refl
 widen-none (ending g) = refl
 widen-none (child g x gs) = refl
 
 -- more in front twice
 pub widen-both : (xs ys us vs : List Part) (gs : Gaps) → widen xs ys (widen us vs gs) ≡ widen (xs ++ us) (ys ++ vs) gs
 unfolding widen
-widen-both xs ys us vs (stopped n) = refl
+widen-both xs ys us vs (stopped g n) = rw (append-assoc xs us (g .inline), append-assoc ys vs (g .waiting))
 widen-both xs ys us vs (ending g) = rw (append-assoc xs us (g .inline), append-assoc ys vs (g .waiting))
 widen-both xs ys us vs (child g x gs) = rw (append-assoc xs us (g .inline), append-assoc ys vs (g .waiting))

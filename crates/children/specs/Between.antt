@@ -15,7 +15,7 @@ use Rattle.tree.specs.Answer.{found}
 use Rattle.tree.specs.Index.{Region, partsFrom, endAt}
 use Rattle.children.specs.declared.between.Bounds.{Bounds}
 use Rattle.children.specs.declared.around.Notes.{Notes}
-use Rattle.children.specs.Reading.{between, pass, start, Around, foreignAt, trivia, leading}
+use Rattle.children.specs.Reading.{between, pass, start, Around, foreignAt, trivia, isNote, leading, triviaBefore, triviaAfter}
 use Rattle.children.specs.Stretch.{notes, Stretch}
 
 -- ---- what an accessor gives is one of them
@@ -58,15 +58,35 @@ abbrev pub aroundAt : Option ℕ → List Part → Around
 aroundAt none xs = trivia xs
 aroundAt (some n) xs = foreignAt n
 
--- r is what x gives.
-pub record Beside (image index : List ℕ) (x : Around) (r : Notes) : Type 0 where
+-- r is what x gives, which stands between two places.
+pub record Beside (image index : List ℕ) (x : Around) (from to : ℕ) (r : Notes) : Type 0 where
+  pub begins : r .from ≡ from
+  pub ends : r .to ≡ to
   pub region : Region image index (r .from) (r .to)
   pub read : x ≡ aroundAt (found (r .foreign)) (allOf notes (partsFrom image index (r .from) (r .to)))
 
+-- where the trivia and custom errors end that come first of some parts, which begin at a
+unfoldable pub leadingTo : List ℕ → ℕ → List Part → ℕ
+leadingTo index a [] = a
+leadingTo index a (x ∷ xs) = cond (isNote x) (leadingTo index (endAt index (x .number)) xs) a
+
+-- where what stands before the part with number e ends: at it, or where what comes first ends
+abbrev pub beforeTo : List ℕ → Option ℕ → ℕ → List Part → ℕ
+beforeTo index none a xs = leadingTo index a xs
+beforeTo index (some e) a xs = e
+
 -- r is what f gives of a part x with number e, if any, and the siblings from a on that begin before b
-abbrev pub BesideIn : (Option Part → List Part → Around) → Lent → Lent → Option ℕ → ℕ → ℕ → Notes → Type 0
-BesideIn f image index e a b r =
-    (x : Option Part) → numberOf x ≡ e → Beside (image .entry .now) (index .entry .now) (f x (partsFrom (image .entry .now) (index .entry .now) a b)) r
+abbrev pub BesideIn : (Option Part → List Part → Around) → Lent → Lent → Option ℕ → ℕ → ℕ → ℕ → ℕ → Notes → Type 0
+BesideIn f image index e a b from to r =
+    (x : Option Part) → numberOf x ≡ e → Beside (image .entry .now) (index .entry .now) (f x (partsFrom (image .entry .now) (index .entry .now) a b)) from to r
+
+-- what stands before that part, from a on
+abbrev pub BeforeIn : Lent → Lent → Option ℕ → ℕ → ℕ → Notes → Type 0
+BeforeIn image index e a b r = BesideIn triviaBefore image index e a b a (beforeTo (index .entry .now) e a (partsFrom (image .entry .now) (index .entry .now) a b)) r
+
+-- what stands behind it, up to b
+abbrev pub AfterIn : Lent → Lent → Option ℕ → ℕ → ℕ → Notes → Type 0
+AfterIn image index e a b r = BesideIn triviaAfter image index e a b (fromAt (index .entry .now) e b) b r
 
 -- trivia, a custom error or a separator: what a strict reading takes or skips
 unfoldable pub isKept : ℕ → Bool
@@ -79,5 +99,6 @@ foreignIn (x ∷ xs) = cond (isKept (x .kind)) (foreignIn xs) (some (x .number))
 
 -- The trivia and custom errors that come first from a on end at r.
 pub record Led (image index : List ℕ) (a b r : ℕ) : Type 0 where
+  pub ends : r ≡ leadingTo index a (partsFrom image index a b)
   pub region : Region image index a r
   pub read : leading (partsFrom image index a b) ≡ allOf notes (partsFrom image index a r)

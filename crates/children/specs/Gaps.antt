@@ -7,6 +7,8 @@ use Rattle.text.specs.Basic.{count}
 use Rattle.tree.specs.Tree.{Part}
 use Rattle.tree.specs.declared.class.Kinds.{Kinds}
 use Rattle.tree.specs.Class.{is, oneOf, ofKind}
+use Rattle.children.specs.declared.gap.End.{End}
+use Rattle.children.specs.declared.gap.End.the-variants as End
 use Rattle.children.specs.Reading.{newlinesBefore, newlinesBack}
 use Rattle.tree.specs.declared.class.Class.the-variants as Class
 
@@ -70,9 +72,13 @@ gapOf is ws had = record { inline = is; waiting = ws; had = had }
 abbrev pub newlinesAt : Gap → ℕ
 newlinesAt g = newlinesBefore (g .waiting) + newlinesBack (reverse (g .inline))
 
--- A reading's gaps: a foreign element stops it; it ends behind a last gap; or a gap, a child, and the gaps behind it.
+-- a gap without its inline trivia
+abbrev pub bare : Gap → Gap
+bare g = gapOf [] (g .waiting) (g .had)
+
+-- A reading's gaps: a foreign element stops it behind a gap; it ends behind a last gap; or a gap, a child, and the gaps behind it.
 pub data Gaps : Type 0 where
-  stopped : ℕ → Gaps
+  stopped : Gap → ℕ → Gaps
   ending : Gap → Gaps
   child : Gap → Part → Gaps → Gaps
 
@@ -82,7 +88,7 @@ widened is ws g = record { inline = is ++ g .inline; waiting = ws ++ g .waiting;
 
 -- gaps with more in front of the first
 unfoldable pub widen : List Part → List Part → Gaps → Gaps
-widen is ws (stopped n) = stopped n
+widen is ws (stopped g n) = stopped (widened is ws g) n
 widen is ws (ending g) = ending (widened is ws g)
 widen is ws (child g x gs) = child (widened is ws g) x gs
 
@@ -127,12 +133,18 @@ abbrev pub turned : Turn → Part → Bool → Bool → (Bool → Bool → Gaps)
 turned (on t) x s h go = widen (addsInline t x) (addsWaiting t x) (go (startedAfter t s) (hadAfter t h))
 turned child x s h go = child (gapOf [] [] h) x (go false true)
 turned out x s h go = ending (gapOf [] [] h)
-turned foreign x s h go = stopped (x .number)
+turned foreign x s h go = stopped (gapOf [] [] h) (x .number)
 
 -- the gaps of a reading; `started`: trivia waits already; `had`: a child or trivia came before
 unfoldable pub gaps : Kinds → Bool → Bool → Bool → List Part → Gaps
 gaps wanted loose started had [] = ending (gapOf [] [] had)
 gaps wanted loose started had (x ∷ xs) = turned (turn wanted loose started had x) x started had (λ s h. gaps wanted loose s h xs)
+
+-- the last gap of a reading
+unfoldable pub lastGap : Gaps → Gap
+lastGap (stopped g n) = g
+lastGap (ending g) = g
+lastGap (child g x gs) = lastGap gs
 
 -- the same of a turn's number, as the code has it
 unfoldable pub startedBy : ℕ → Bool → Bool
@@ -146,6 +158,28 @@ hadBy t h = leb t 2 || h
 unfoldable pub followsBy : ℕ → Bool → Bool
 followsBy t s = leb t 1 || ((not (eqb t 2) && not (eqb t 5)) && not s)
 
+-- what ends the gap, by a number that stops it
+unfoldable pub endBy : ℕ → End
+endBy t = cond (eqb t 6) End.Child (cond (eqb t 7) End.Last End.Foreign)
+
+-- a child ends it
+abbrev pub isChild : End → Bool
+isChild End.Child = true
+isChild End.Last = false
+isChild End.Foreign = false
+
+-- a foreign element ends it
+abbrev pub isForeign : End → Bool
+isForeign End.Child = false
+isForeign End.Last = false
+isForeign End.Foreign = true
+
+-- the gaps from g on, by what ends it: the child x, with the gaps behind it; the end of the reading; the foreign element x
+abbrev pub endedBy : End → Gap → Part → Gaps → Gaps
+endedBy End.Child g x gs = child g x gs
+endedBy End.Last g x gs = ending g
+endedBy End.Foreign g x gs = stopped g (x .number)
+
 -- the line feeds of whitespace, 0 of another element
 unfoldable pub spaceIn : Part → ℕ
 spaceIn x = cond (eqb (x .kind) 64) (count 10 (x .text)) 0
@@ -158,6 +192,11 @@ pub data Sums : Type 0 where
 
 -- what gaps come to, behind k children, of which one triggers many lines or none
 unfoldable pub gapSums : ℕ → Bool → Gaps → Sums
-gapSums k m (stopped n) = foreignAt n
+gapSums k m (stopped g n) = foreignAt n
 gapSums k m (ending g) = sums k m (leb 2 (newlinesAt g)) (g .waiting)
 gapSums k m (child g x gs) = gapSums (suc k) (m || leb 1 (newlinesAt g)) gs
+
+-- what ends the last gap of a reading that comes to this
+abbrev pub endOf : Sums → End
+endOf (foreignAt n) = End.Foreign
+endOf (sums k m b ts) = End.Last

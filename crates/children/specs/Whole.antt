@@ -28,13 +28,13 @@ preceded cs (read ds e) = read (cs ++ ds) e
 
 -- the reading from a child on, with the gaps behind it
 unfoldable pub readFrom : Child → Gaps → Reading
-readFrom c (stopped n) = foreign n
+readFrom c (stopped g n) = foreign n
 readFrom c (ending g) = read (closedBy c g ∷ []) (endingAt g)
 readFrom c (Gaps.child g x gs) = preceded (closedBy c g ∷ []) (readFrom (childAt g x) gs)
 
 -- the reading that gaps make
 unfoldable pub readingOf : Gaps → Reading
-readingOf (stopped n) = foreign n
+readingOf (stopped g n) = foreign n
 readingOf (ending g) = read [] (endingAt g)
 readingOf (Gaps.child g x gs) = readFrom (childAt g x) gs
 

@@ -10,8 +10,8 @@ ghost use mathlib.Core.Path.{_≡_};
 ghost use mathlib.Core.Option.{none};
 ghost use Rattle.tree.specs.Answer.{found};
 ghost use Rattle.tree.specs.Index.{partsFrom, Region};
-ghost use Rattle.children.specs.Reading.{strict, triviaBefore, triviaAfter};
-ghost use Rattle.children.specs.Between.{Beside, Ends, Led, isKept, foreignIn, BesideIn};
+ghost use Rattle.children.specs.Reading.{strict};
+ghost use Rattle.children.specs.Between.{Beside, Ends, Led, isKept, foreignIn, BeforeIn, AfterIn};
 
 // The trivia and custom errors from one element up to another, unless a foreign element stands there.
 pub struct Notes {
@@ -47,7 +47,7 @@ fn foreign_of(image: &[u8], index: &[u32], a: u32, b: u32) -> Found
 // The trivia and custom errors from a on that begin before b, which is a strict reading.
 fn strict_notes(image: &[u8], index: &[u32], a: u32, b: u32) -> Notes
     requires { ⌜ Region (now image) (now index) a b ⌝ }
-    ensures { λ r. ⌜ Beside (now (image .entry)) (now (index .entry)) (strict (partsFrom (now (image .entry)) (now (index .entry)) a b)) r ⌝ }
+    ensures { λ r. ⌜ Beside (now (image .entry)) (now (index .entry)) (strict (partsFrom (now (image .entry)) (now (index .entry)) a b)) a b r ⌝ }
 {
     let foreign = foreign_of(image, index, a, b);
     Notes {
@@ -76,7 +76,7 @@ fn leading_end(image: &[u8], index: &[u32], a: u32, b: u32) -> u32
 // The trivia before an expression among the elements from a on that begin before b; without one, the trivia that comes first.
 pub fn trivia_before(image: &[u8], index: &[u32], e: Found, a: u32, b: u32) -> Notes
     requires { ⌜ Ends (now image) (now index) a b (found e) none ⌝ }
-    ensures { λ r. ⌜ BesideIn triviaBefore image index (found e) a b r ⌝ }
+    ensures { λ r. ⌜ BeforeIn image index (found e) a b r ⌝ }
 {
     match e {
         Found::At(x) => strict_notes(image, index, a, x.0),
@@ -94,7 +94,7 @@ pub fn trivia_before(image: &[u8], index: &[u32], e: Found, a: u32, b: u32) -> N
 // The trivia behind an expression among the elements from a on that begin before b; without one, nothing.
 pub fn trivia_after(image: &[u8], index: &[u32], e: Found, a: u32, b: u32) -> Notes
     requires { ⌜ Ends (now image) (now index) a b (found e) none ⌝ }
-    ensures { λ r. ⌜ BesideIn triviaAfter image index (found e) a b r ⌝ }
+    ensures { λ r. ⌜ AfterIn image index (found e) a b r ⌝ }
 {
     match e {
         Found::At(x) => strict_notes(image, index, end_at(index, x.0), b),

@@ -2,6 +2,8 @@
 use super::tally::Tally;
 use super::tally::nothing;
 use super::tally::tallied;
+use super::turn::CHILD;
+use super::turn::OUT;
 use super::turn::STOP;
 use super::turn::follows_by;
 use super::turn::had_by;
@@ -14,15 +16,16 @@ use tree::class::Kinds;
 ghost use mathlib.Core.Path.{_≡_};
 ghost use mathlib.Core.Bool.{cond};
 ghost use Rattle.tree.specs.Index.{Region};
+ghost use Rattle.children.specs.Gaps.{isChild, isForeign, endBy};
 ghost use Rattle.children.specs.Lead.{Leads};
 ghost use Rattle.children.specs.Spans.{Spans};
 
 // What ends a gap: a child, the end of the reading, a foreign element.
-pub const AT_CHILD: u32 = 0;
-
-pub const AT_END: u32 = 1;
-
-pub const AT_FOREIGN: u32 = 2;
+pub enum End {
+    Child,
+    Last,
+    Foreign,
+}
 
 // A gap: where it begins, the cut between inline and waiting trivia, where it ends; whether a child or trivia came so far;
 // what ends it; and what it holds.
@@ -31,12 +34,12 @@ pub struct Span {
     pub cut: u32,
     pub to: u32,
     pub had: bool,
-    pub end: u32,
+    pub end: End,
     pub tally: Tally,
 }
 
 // A gap of these parts.
-fn span_of(from: u32, cut: u32, to: u32, had: bool, end: u32, tally: Tally) -> Span
+fn span_of(from: u32, cut: u32, to: u32, had: bool, end: End, tally: Tally) -> Span
     ensures { λ r. ⌜ r ≡ record { from = from; cut = cut; to = to; had = had; end = end; tally = tally } ⌝ }
 {
     Span {
@@ -49,8 +52,43 @@ fn span_of(from: u32, cut: u32, to: u32, had: bool, end: u32, tally: Tally) -> S
     }
 }
 
+// Whether a child ends a gap.
+pub fn at_child(s: Span) -> bool
+    ensures { λ r. ⌜ r ≡ isChild (s .end) ⌝ }
+{
+    let e = s.end;
+    match e {
+        End::Child => true,
+        End::Last => false,
+        End::Foreign => false,
+    }
+}
+
+// Whether a foreign element ends it.
+pub fn at_foreign(s: Span) -> bool
+    ensures { λ r. ⌜ r ≡ isForeign (s .end) ⌝ }
+{
+    let e = s.end;
+    match e {
+        End::Child => false,
+        End::Last => false,
+        End::Foreign => true,
+    }
+}
+
+// What a turn from STOP on ends a gap with.
+fn end_by(t: u32) -> End
+    ensures { λ r. ⌜ r ≡ endBy t ⌝ }
+{
+    match t {
+        CHILD => End::Child,
+        OUT => End::Last,
+        _ => End::Foreign,
+    }
+}
+
 // A gap with another end.
-pub fn ended_by(s: Span, end: u32) -> Span
+pub(crate) fn ended_by(s: Span, end: End) -> Span
     ensures { λ r. ⌜ r ≡ record { from = s .from; cut = s .cut; to = s .to; had = s .had; end = end; tally = s .tally } ⌝ }
 {
     let t = s.tally;
@@ -86,7 +124,7 @@ pub fn gap(
         let f = space_of(image, index, j);
         let t = turn_of(image, index, w, loose, started, had, j, f);
         if t >= STOP {
-            return span_of(from, cut, j, had, t - STOP, tally);
+            return span_of(from, cut, j, had, end_by(t), tally);
         }
         let next = end_at(index, j);
         let follows = follows_by(t, started);
@@ -96,7 +134,7 @@ pub fn gap(
         tally = tallied(tally, kind_at(index, j), f, follows);
         j = next;
     }
-    span_of(from, cut, j, had, AT_END, tally)
+    span_of(from, cut, j, had, End::Last, tally)
 }
 
 // The first gap of a reading that is handed a trailing list: it holds errors only, and cut and to are one.
@@ -110,10 +148,10 @@ pub fn lead(image: &[u8], index: &[u32], w: Kinds, loose: bool, from: u32, b: u3
         let f = space_of(image, index, j);
         let t = turn_of(image, index, w, loose, true, false, j, f);
         if t >= STOP {
-            return span_of(from, j, j, false, t - STOP, tally);
+            return span_of(from, j, j, false, end_by(t), tally);
         }
         tally = tallied(tally, kind_at(index, j), f, true);
         j = end_at(index, j);
     }
-    span_of(from, j, j, false, AT_END, tally)
+    span_of(from, j, j, false, End::Last, tally)
 }

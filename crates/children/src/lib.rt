@@ -4,7 +4,8 @@ pub mod between;
 pub mod gap;
 pub mod newlines;
 pub mod survey;
-pub mod tally;
+mod tally;
 mod turn;
 
+pub use tally::Tally;
 pub use turn::note_kinds;

@@ -4,16 +4,7 @@ ghost use mathlib.Core.Path.{_≡_};
 ghost use mathlib.Core.Bool.{_&&_};
 ghost use lib.Dec.{leb};
 ghost use Rattle.children.specs.Gaps.{newlinesAt};
-ghost use Rattle.children.specs.Reading.{newlinesBefore};
 ghost use Rattle.children.specs.Spans.{Lies, gapAt};
-
-// The newlines of what waits in a gap.
-pub fn waiting_newlines(image: &[u8], index: &[u32], s: Span) -> usize
-    requires { ⌜ Lies (now image) (now index) s ⌝ }
-    ensures { λ r. ⌜ r ≡ newlinesBefore (gapAt (now (image .entry)) (now (index .entry)) s .waiting) ⌝ }
-{
-    s.tally.before
-}
 
 // The newlines of a gap: two or more ask for a blank line, one or more for many lines.
 pub fn newlines_at(image: &[u8], index: &[u32], s: Span) -> usize

@@ -33,9 +33,9 @@ pub const OVER: u32 = 5;
 // From here on the gap ends: a child, the end of a loose reading, a foreign element.
 pub const STOP: u32 = 6;
 
-const CHILD: u32 = 6;
+pub const CHILD: u32 = 6;
 
-const OUT: u32 = 7;
+pub const OUT: u32 = 7;
 
 const FOREIGN: u32 = 8;
 

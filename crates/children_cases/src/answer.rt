@@ -1,15 +1,14 @@
 // The answers of crate `children` to four readings of one sequence, number after number in four digests.
 use super::sequence::put_image;
 use cases::front;
-use children::gap::AT_CHILD;
-use children::gap::AT_END;
 use children::gap::Span;
+use children::gap::at_child;
 use children::gap::gap;
 use children::gap::lead;
 use children::newlines::blank_line;
 use children::newlines::newlines_at;
-use children::newlines::waiting_newlines;
 use children::survey::Outline;
+use children::survey::is_stopped;
 use children::survey::survey;
 use children::survey::survey_after;
 use tree::access::end_at;
@@ -104,14 +103,10 @@ fn mix_waiting(table: &[u32], s: Span, h: u32) -> u32 {
     mix(mix_all(table, notes, s.cut, s.to, n), SIGN)
 }
 
-fn is_foreign(o: Outline) -> bool {
-    o.last.end != AT_END
-}
-
 // What a survey says: the foreign element, or the children, many lines, the ending's blank line and its trivia.
 fn mix_outline(table: &[u32], o: Outline, h: u32) -> u32 {
     let last = o.last;
-    if is_foreign(o) {
+    if is_stopped(o) {
         return mix(mix(h, 1), last.to);
     }
     let n = mix(mix(mix(mix(h, 2), o.children), bit(o.many)), bit(o.blank));
@@ -124,7 +119,7 @@ fn mix_walk(image: &[u8], table: &[u32], w: Kinds, loose: bool, first: Span, b: 
 {
     let mut s = first;
     let mut n = h;
-    while s.end == AT_CHILD {
+    while at_child(s) {
         n = mix(mix(n, s.to), bit(blank_line(image, table, s)));
         n = mix(n, bit(newlines_at(image, table, s) >= 1));
         n = mix_waiting(table, s, n);
@@ -141,7 +136,7 @@ fn plain(image: &[u8], table: &[u32], loose: bool, a: u32, b: u32, h: u32) -> u3
     let w = kinds_of(Class::Expr);
     let o = survey(image, table, w, loose, a, b);
     let n = mix_outline(table, o, h);
-    if is_foreign(o) {
+    if is_stopped(o) {
         return n;
     }
     let s = gap(image, table, w, loose, false, a, b);
@@ -156,14 +151,14 @@ fn trailing(image: &[u8], table: &[u32], loose: bool, a: u32, b: u32, h: u32) ->
     let t = gap(image, table, w, loose, false, a, b);
     let o = survey_after(image, table, w, loose, t, a, b);
     let n = mix_outline(table, o, h);
-    if is_foreign(o) {
+    if is_stopped(o) {
         return n;
     }
     let s = lead(image, table, w, loose, a, b);
-    if s.end != AT_CHILD {
+    if !at_child(s) {
         return n;
     }
-    let many = waiting_newlines(image, table, t) >= 1;
+    let many = t.tally.before >= 1;
     let m = mix_waiting(table, t, mix(mix(n, s.to), bit(many)));
     let next = gap(image, table, w, loose, true, end_at(table, s.to), b);
     mix_walk(image, table, w, loose, next, b, mix_inline(table, next, m))

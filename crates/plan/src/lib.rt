@@ -144,31 +144,31 @@ pub fn plan_optional(ops: &mut [u32], cells: &mut [u32; 8], w: u32)
 }
 
 // Plans the text of element t.
-pub fn plan_token(ops: &mut [u32], cells: &mut [u32; 8], t: u32)
-    requires { ⌜ t < operandLimit ⌝ }
-    ensures { λ _. ⌜ ((s : Source) → Plans s (say (text (token s t))) (handed ops cells) (left ops cells)) ⌝ }
+pub fn plan_token(ops: &mut [u32], cells: &mut [u32; 8], t: Element)
+    requires { ⌜ t .0 < operandLimit ⌝ }
+    ensures { λ _. ⌜ ((s : Source) → Plans s (say (text (token s (t .0)))) (handed ops cells) (left ops cells)) ⌝ }
 {
-    add_numbered(ops, cells, TOKEN, t as u64);
+    add_numbered(ops, cells, TOKEN, t.0 as u64);
 }
 
 // Plans the comment of element t at a place, if it prints anything: each operation prints an item or more.
-pub fn plan_comment(
+fn plan_comment(
     ops: &mut [u32],
     cells: &mut [u32; 8],
     image: &[u8],
     index: &[u32],
-    t: u32,
+    t: Element,
     loc: CommentLocation,
 )
-    requires { ⌜ t < operandLimit ⌝ }
-    ensures { λ _. ⌜ PlansIn ops cells image index (says (note (sourceIn image index) t (place loc))) ⌝ }
+    requires { ⌜ t .0 < operandLimit ⌝ }
+    ensures { λ _. ⌜ PlansIn ops cells image index (says (note (sourceIn image index) (t .0) (place loc))) ⌝ }
 {
-    let k = kind_at(index, t);
-    let s = text_at(image, index, t);
+    let k = kind_at(index, t.0);
+    let s = text_at(image, index, t.0);
     if is_silent(k, s) {
         return;
     }
-    add_numbered(ops, cells, note_kind(loc), t as u64);
+    add_numbered(ops, cells, note_kind(loc), t.0 as u64);
 }
 
 // Plans an item without operands.

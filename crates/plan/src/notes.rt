@@ -3,6 +3,7 @@ use super::plan_comment;
 use children::gap::Span;
 use children::note_kinds;
 use comments::CommentLocation;
+use numbers::Element;
 use tree::access::end_at;
 use tree::access::kind_at;
 use tree::class::Class;
@@ -27,13 +28,13 @@ fn plan_one(
     image: &[u8],
     index: &[u32],
     w: Kinds,
-    j: u32,
+    j: Element,
     loc: CommentLocation,
 )
-    requires { ⌜ j < operandLimit ⌝ }
-    ensures { λ _. ⌜ PlansIn ops cells image index (comments (allOf w (partAt (now (image .entry)) (now (index .entry)) j ∷ [])) (place loc)) ⌝ }
+    requires { ⌜ j .0 < operandLimit ⌝ }
+    ensures { λ _. ⌜ PlansIn ops cells image index (comments (allOf w (partAt (now (image .entry)) (now (index .entry)) (j .0) ∷ [])) (place loc)) ⌝ }
 {
-    let k = kind_at(index, j);
+    let k = kind_at(index, j.0);
     if is(w, k) {
         plan_comment(ops, cells, image, index, j, loc);
     }
@@ -55,7 +56,7 @@ fn plan_all(
 {
     let mut j = a;
     while j < b {
-        plan_one(ops, cells, image, index, w, j, loc);
+        plan_one(ops, cells, image, index, w, Element(j), loc);
         j = end_at(index, j);
     }
 }

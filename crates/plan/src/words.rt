@@ -105,7 +105,7 @@ fn start_of(w: u32) -> usize
 }
 
 // The text with a number among all of them joined; behind the last one there is none.
-pub fn word_in(all: &[u8], w: u32) -> &[u8]
+pub(crate) fn word_in(all: &[u8], w: u32) -> &[u8]
     requires { ⌜ now all ≡ joinedWords words ⌝ }
     ensures { λ r. ⌜ now r ≡ ascii (wordAt w) ⌝ }
 {

@@ -11,9 +11,11 @@ use lib.ListN.{length}
 use borrow.Author.Tests.{ne-eqb}
 use Rattle.text.specs.Basic.{isNil}
 use Rattle.items.specs.Item.{Test, lines, newline, indent, outdent, mark, group, Print, _⨟_, none, say, stopped, lit, when, withNumber}
+use Rattle.comments.specs.Comments.{itemInline}
 use Rattle.tree.specs.Tree.{Part}
 use Rattle.tree.specs.Class.{numberOf}
 use Rattle.children.specs.declared.survey.Outline.{Outline}
+use Rattle.plan.specs.Comments.{comments}
 use Rattle.children.specs.Reading.{Child, Ending, Reading, foreign, read, isEmpty, anyManyLines, compMembers, compSpecs}
 use Rattle.children.specs.Gaps.{Gap}
 use Rattle.children.specs.Spans.{gapAt}
@@ -30,6 +32,11 @@ use Rattle.printer.specs.Reads.{kidsIn}
 pub around-is : (pr : ℕ → Print) (f g : Bool → Print) (a : Gap) (j : ℕ) (b : Gap) (m : Bool) → around pr f g a j b m ≡ above a ⨟ (pr j ⨟ following f g b m)
 unfolding around above following
 around-is pr f g a j b m = simp seq-assoc
+
+-- what follows a child, by the code's test whether one more does
+pub following-is : (f g : Bool → Print) (b : Gap) {t m : Bool} → t ≡ m → following f g b m ≡ f t ⨟ (comments (b .inline) itemInline ⨟ g t)
+unfolding following
+following-is f g b e = rw e
 
 -- ---- lists in brackets
 

@@ -90,36 +90,35 @@ or-marked a b w = go (marked a w) refl (marked b w) refl
         let m : b / 2 ^ w % 2 ≡ 1 → ⊥ = eqb-false (b / 2 ^ w % 2) 1 f in
         ne-eqb X 1 (λ p. omega (arith, larger, p))
 
--- The parts of element i from j on are still to be marked.
-pub record Marking (image index : List ℕ) (i m j : ℕ) : Type 0 where
-  pub region : Region image index j (endAt index i)
-  pub rest : (w : ℕ) → w < wantCount → any (is (wantAt w .class)) (partsOf image index i) ≡ (marked m w || any (is (wantAt w .class)) (partsFrom image index j (endAt index i)))
+-- Of the siblings from a on that begin before `end`, those from j on are still to be marked.
+pub record Marking (image index : List ℕ) (a end m j : ℕ) : Type 0 where
+  pub region : Region image index j end
+  pub rest : (w : ℕ) → w < wantCount → any (is (wantAt w .class)) (partsFrom image index a end) ≡ (marked m w || any (is (wantAt w .class)) (partsFrom image index j end))
 
-module _ {image index : List ℕ} {i : ℕ} where
-  pub marking-none : {j : ℕ} → At image index i → j ≡ i + 1 → Marking image index i 0 j
-  marking-none t e = rw e (record { region = at-region t refl refl; rest = λ w h. rw (none-marked w h) })
+module _ {image index : List ℕ} {a end : ℕ} where
+  pub marking-none : {i : ℕ} → At image index i → a ≡ i + 1 → end ≡ endAt index i → Marking image index a end 0 a
+  marking-none t e f = record { region = at-region t e f; rest = λ w h. rw (none-marked w h) }
 
-  module _ {m j end : ℕ} (r : Marking image index i m j) (e : end ≡ endAt index i) where
+  module _ {m j : ℕ} (r : Marking image index a end m j) where
     pub marking-less : {k : ℕ} → j < end → k ≡ endAt index j → end - k < end - j
-    marking-less h q = omega (arith, region-past (r .region) (omega (arith, e)))
+    marking-less h q = omega (arith, region-past (r .region) h)
 
-    pub marking-more : {k n q : ℕ} → j < end → k ≡ endAt index j → q ≡ kindAt index j → MarksOf q n → Marking image index i (bitOr m n) k
+    pub marking-more : {k n q : ℕ} → j < end → k ≡ endAt index j → q ≡ kindAt index j → MarksOf q n → Marking image index a end (bitOr m n) k
     unfolding any
     marking-more {k} {n} {q} h f g s =
-        let l : j < endAt index i = omega (arith, e) in
         rw f (record {
-          region = region-next (r .region) l;
+          region = region-next (r .region) h;
           rest = λ w v.
-              r .rest w v ∙ ap (λ x. marked m w || any (is (wantAt w .class)) x) (region-part (r .region) l)
+              r .rest w v ∙ ap (λ x. marked m w || any (is (wantAt w .class)) x) (region-part (r .region) h)
               ∙ rw (or-marked m n w, s .of-class w v, g) (sym (or-assoc (marked m w) (ofKind (wantAt w .class) (kindAt index j)) _));
         })
 
-    pub marking-all : {sure : Bool} → end ≤ j → Marks (partsOf image index i) sure m
+    pub marking-all : (i : ℕ) {sure : Bool} → a ≡ i + 1 → end ≡ endAt index i → end ≤ j → Marks (partsOf image index i) sure m
     unfolding any
-    marking-all h = record { absent = λ w v u. told w v u; there = λ s w v u. told w v u }
+    marking-all i e f h = rw (← e, ← f) (record { absent = λ w v u. told w v u; there = λ s w v u. told w v u })
       where
-        told : (w : ℕ) → w < wantCount → {b : Bool} → marked m w ≡ b → any (is (wantAt w .class)) (partsOf image index i) ≡ b
-        told w v u = r .rest w v ∙ rw (parts-over index image j (endAt index i) (omega (arith, e))) (or-idle (marked m w)) ∙ u
+        told : (w : ℕ) → w < wantCount → {b : Bool} → marked m w ≡ b → any (is (wantAt w .class)) (partsFrom image index a end) ≡ b
+        told w v u = r .rest w v ∙ rw (parts-over index image j end h) (or-idle (marked m w)) ∙ u
 
 -- ---- what is not there
 

@@ -13,6 +13,7 @@ use Rattle.tree.specs.Class.{kinds, numberOf}
 use Rattle.tree.specs.Index.{endAt}
 use Rattle.tree.proofs.Children.{table}
 use Rattle.children.specs.declared.between.Bounds.{Bounds}
+use Rattle.children.specs.declared.gap.End.the-variants as End
 use Rattle.children.specs.declared.gap.Span.{Span}
 use Rattle.children.specs.Reading.{read}
 use Rattle.children.specs.Stretch.{Stretch, here, jump}
@@ -24,7 +25,7 @@ use Rattle.children.proofs.Stretch.{stretch-both}
 use Rattle.printer.specs.Print.{partOr, children}
 use Rattle.printer.specs.Under.{At, Kid}
 use Rattle.printer.specs.Walked.{walked}
-use Rattle.printer.proofs.Walked.{through-first, through-next, walk-read}
+use Rattle.printer.proofs.Walked.{walk-read}
 use Rattle.printer.proofs.Under.{kid-of, kid-at}
 use Rattle.printer.specs.Reads.{numberOr, Within, readAt, Whole, kidsIn, Walks}
 
@@ -40,10 +41,9 @@ within a b = record { at = a; region = b .region; reached = b .reached; inside =
 
 -- at the first gap of a reading
 pub walks-first : (c : Class) {image index : List ℕ} {i : ℕ} {z : Bounds} {s : Span} → Within image index i z → Spans image index (kinds c) (z .loose) false (z .from) (z .to) s
-    → Whole (readAt image index c z nothing) → Walks image index i (kinds c) (z .loose) (z .to) s
-walks-first c {z} w h r = record {
+    → Walks image index i (kinds c) (z .loose) (z .to) s
+walks-first c w h = record {
   at = w .at;
-  through = through-first h (sym (whole c (z .loose) _) ∙ r .is);
   lies = h .lies;
   onward = h .inside;
   reached = stretch-both (w .reached) (span-reached h);
@@ -52,7 +52,7 @@ walks-first c {z} w h r = record {
 
 module _ {image index : List ℕ} {i : ℕ} {w : Kinds} {loose : Bool} {b : ℕ} {s : Span} (h : Walks image index i w loose b s) where
   -- the child behind a gap
-  pub walks-kid : s .end ≡ 0 → Kid image index i (s .to)
+  pub walks-kid : s .end ≡ End.Child → Kid image index i (s .to)
   walks-kid e = kid-of (h .at) (h .reached) (omega (arith, h .onward e, h .inside))
 
 -- behind a child of element i
@@ -62,11 +62,10 @@ behind-kid {image} {index} {i} {j} k =
     record { n = _; table = t; upto = t .inside j (kid-at k .within); jumps = jump (kid-at k .within) here }
 
 -- at the next gap
-pub walks-next : {image index : List ℕ} {i : ℕ} {w : Kinds} {loose : Bool} {b next : ℕ} {s t : Span} → Walks image index i w loose b s → s .end ≡ 0
+pub walks-next : {image index : List ℕ} {i : ℕ} {w : Kinds} {loose : Bool} {b next : ℕ} {s t : Span} → Walks image index i w loose b s → s .end ≡ End.Child
     → next ≡ endAt index (s .to) → Spans image index w loose true next b t → Walks image index i w loose b t
 walks-next h e q k = record {
   at = h .at;
-  through = through-next (h .through) e q k;
   lies = k .lies;
   onward = k .inside;
   reached = stretch-both (h .reached) (stretch-both (rw q (behind-kid (walks-kid h e))) (span-reached k));

@@ -1,13 +1,11 @@
 -- The laws of a local's one bind, and of the CompSpecs of an object comprehension.
 use mathlib.Core.Path.{_≡_, refl, sym, ap, _∙_}
-use mathlib.Core.Bool.{Bool, true, false, cond}
+use mathlib.Core.Bool.{Bool, true, false}
 use mathlib.Core.Option.{none as nothing, some}
 use mathlib.Core.List.{List, [], _∷_}
 use Prim.Native.Nat.{ℕ, _≤_}
 use native.Mathlib.Omega.{arith}
-use lib.Dec.{eqb}
 use lib.ListN.{length}
-use borrow.Author.Tests.{eqb-true}
 use Rattle.items.specs.Item.{Print, _⨟_, none, lit}
 use Rattle.comments.specs.Comments.{aboveItem}
 use Rattle.tree.specs.Tree.{Part}
@@ -16,10 +14,12 @@ use Rattle.tree.specs.declared.class.Class.the-variants.{Bind, CompSpec}
 use Rattle.tree.specs.Class.{kinds}
 use Rattle.tree.specs.Index.{endAt, partAt, partsFrom}
 use Rattle.children.specs.declared.between.Bounds.{Bounds}
+use Rattle.children.specs.declared.gap.End.{End}
+use Rattle.children.specs.declared.gap.End.the-variants as End
 use Rattle.children.specs.declared.gap.Span.{Span}
 use Rattle.children.specs.Reading.{Child, Ending, Reading, foreign, read}
 use Rattle.plan.specs.Comments.{comments}
-use Rattle.children.specs.Gaps.{Gap, Gaps, gapOf, gaps}
+use Rattle.children.specs.Gaps.{Gap, Gaps, gapOf, gaps, isChild, endedBy}
 use Rattle.children.specs.Gaps as G
 use Rattle.children.specs.Whole.{childAt, closedBy, preceded, readFrom, readingOf}
 use Rattle.children.specs.Lead.{Leads, leads, led, readingAfter}
@@ -32,7 +32,7 @@ use Rattle.printer.specs.Print.{children, localOf}
 use Rattle.printer.specs.Under.{Kid}
 use Rattle.printer.specs.Walked.{around, walked, walkedAfter}
 use Rattle.printer.specs.Reads.{Within, Whole, readAt, kidsIn, Walks}
-use Rattle.printer.proofs.Walked.{foreign-read, walk-after, through-lead, walk-lead, lead-none}
+use Rattle.printer.proofs.Walked.{foreign-read, walk-after, walk-lead, lead-none}
 use Rattle.printer.proofs.Under.{kid-of}
 use Rattle.printer.proofs.Readings.{behind-kid}
 
@@ -41,7 +41,7 @@ use Rattle.printer.proofs.Readings.{behind-kid}
 -- the reading from a child on has one child at least
 some-kids : (c : Child) (gs : Gaps) (ds : List Child) (e : Ending) → readFrom c gs ≡ read ds e → 1 ≤ length ds
 unfolding readFrom
-some-kids c (G.stopped n) ds e h = foreign-read h
+some-kids c (G.stopped g n) ds e h = foreign-read h
 some-kids c (G.ending g) ds e h = let q : closedBy c g ∷ [] ≡ ds = cc in rw (← q) (omega arith)
 some-kids c (G.Gaps.child g x gs) ds e h = go (readFrom (childAt g x) gs) h
   where
@@ -55,7 +55,7 @@ record Lone (gs : Gaps) (g : Gap) (x : Part) : Type 0 where
 
 lone-child : (g : Gap) (x : Part) (gs : Gaps) {cs : List Child} {e : Ending} → readingOf (G.Gaps.child g x gs) ≡ read cs e → length cs ≡ 1 → Lone (G.Gaps.child g x gs) g x
 unfolding readingOf readFrom localOf
-lone-child g x (G.stopped n) h l = foreign-read h
+lone-child g x (G.stopped k n) h l = foreign-read h
 lone-child g x (G.ending k) h l = record { one = λ pr. refl }
 lone-child g x (G.Gaps.child k y gs) {cs} {e} h l = go (readFrom (childAt k y) gs) h (some-kids (childAt k y) gs)
   where
@@ -73,15 +73,14 @@ module _ {image index : List ℕ} {w : Kinds} {z : Bounds} {s : Span} (k : w ≡
   count = rw (r .is) at l
 
   -- there is a child
-  pub lone-there : s .end ≡ 0
+  pub lone-there : s .end ≡ End.Child
   unfolding spanned readingOf
-  lone-there = go (eqb (s .end) 0) refl (eqb (s .end) 1) reads
+  lone-there = go (s .end) reads
     where
-      go : (u : Bool) → eqb (s .end) 0 ≡ u → (v : Bool)
-          → readingOf (cond u (G.Gaps.child (gapAt image index s) (partAt image index (s .to)) (gaps w (z .loose) false true (partsFrom image index (endAt index (s .to)) (z .to)))) (cond v (G.ending (gapAt image index s)) (G.stopped (s .to)))) ≡ read (r .kids) (r .ending) → s .end ≡ 0
-      go true e v q = eqb-true (s .end) 0 e
-      go false e true q = let n : [] ≡ r .kids = cc in absurd (omega (arith, count, ap length n))
-      go false e false q = foreign-read q
+      go : (d : End) → readingOf (endedBy d (gapAt image index s) (partAt image index (s .to)) (gaps w (z .loose) false true (partsFrom image index (endAt index (s .to)) (z .to)))) ≡ read (r .kids) (r .ending) → d ≡ End.Child
+      go End.Child q = refl
+      go End.Last q = let n : [] ≡ r .kids = cc in absurd (omega (arith, count, ap length n))
+      go End.Foreign q = foreign-read q
 
   pub lone-is : (pr : ℕ → Print) → localOf pr (readAt image index Bind z nothing) ≡ comments (gapAt image index s .waiting) aboveItem ⨟ (lit "local " ⨟ pr (s .to))
   lone-is pr =
@@ -95,7 +94,7 @@ module _ {image index : List ℕ} {w : Kinds} {z : Bounds} {s : Span} (k : w ≡
 
 module _ {image index : List ℕ} {i : ℕ} {w : Kinds} {z : Bounds} {s : Span} (k : w ≡ kinds CompSpec) (n : Within image index i z) (h : Leads image index w (z .loose) (z .from) (z .to) s) where
   -- the first is a child
-  pub spec-kid : s .end ≡ 0 → Kid image index i (s .to)
+  pub spec-kid : s .end ≡ End.Child → Kid image index i (s .to)
   spec-kid e = kid-of (n .at) (stretch-both (n .reached) (lead-reached h)) (omega (arith, h .inside e, n .inside))
 
   module _ (ts : List Part) (r : Whole (readAt image index CompSpec z (some ts))) where
@@ -108,20 +107,19 @@ module _ {image index : List ℕ} {i : ℕ} {w : Kinds} {z : Bounds} {s : Span} 
     walked-specs pr f g = rw (r .is, ← (h .read)) (walk-after pr f g ts _ after)
 
     -- there is none
-    pub specs-none : (pr : ℕ → Print) (f g : Bool → Print) → (s .end ≡ 0 → ⊥) → children pr f g (kidsIn (readAt image index CompSpec z (some ts))) ≡ none
-    specs-none pr f g e = walked-specs pr f g ∙ lead-none index image w (z .loose) (z .to) s pr f g ts e
+    pub specs-none : (pr : ℕ → Print) (f g : Bool → Print) {t : Bool} → t ≡ isChild (s .end) → t ≡ false → children pr f g (kidsIn (readAt image index CompSpec z (some ts))) ≡ none
+    specs-none pr f g j e = walked-specs pr f g ∙ lead-none index image w (z .loose) (z .to) s pr j e f g ts
 
-    module _ {next : ℕ} {t : Span} (e : s .end ≡ 0) (q : next ≡ endAt index (s .to)) (p : Spans image index w (z .loose) true next (z .to) t) where
+    module _ {next : ℕ} {t : Span} (e : s .end ≡ End.Child) (q : next ≡ endAt index (s .to)) (p : Spans image index w (z .loose) true next (z .to) t) where
       -- the first, with the trailing list before it, and the others
       pub specs-some : (pr : ℕ → Print) (f g : Bool → Print)
-          → children pr f g (kidsIn (readAt image index CompSpec z (some ts))) ≡ around pr f g (gapOf [] ts false) (s .to) (gapAt image index t) (eqb (t .end) 0) ⨟ walked pr f g (spanned image index (kinds CompSpec) (z .loose) (z .to) t)
-      specs-some pr f g = walked-specs pr f g ∙ walk-lead pr f g ts s (through-lead ts h after e q p) e q p ∙ rw k
+          → children pr f g (kidsIn (readAt image index CompSpec z (some ts))) ≡ around pr f g (gapOf [] ts false) (s .to) (gapAt image index t) (isChild (t .end)) ⨟ walked pr f g (spanned image index (kinds CompSpec) (z .loose) (z .to) t)
+      specs-some pr f g = walked-specs pr f g ∙ walk-lead s e q p pr f g ts ∙ rw k
 
       -- a walk over the others
       pub specs-walks : Walks image index i (kinds CompSpec) (z .loose) (z .to) t
       specs-walks = rw (← k) (record {
         at = n .at;
-        through = through-lead ts h after e q p;
         lies = p .lies;
         onward = p .inside;
         reached = stretch-both (n .reached) (stretch-both (lead-reached h) (stretch-both (rw q (behind-kid (spec-kid e))) (span-reached p)));

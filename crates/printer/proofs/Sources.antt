@@ -39,8 +39,9 @@ module _
     (q : b ≡ endAt index 0)
     (f : e ≡ numberOf (first Class.Expr (partsOf image index 0)))
     (before after : Notes)
-    (g : (y : Option Part) → numberOf y ≡ e → Beside image index (triviaBefore y (partsFrom image index a b)) before)
-    (h : (y : Option Part) → numberOf y ≡ e → Beside image index (triviaAfter y (partsFrom image index a b)) after) where
+    {u v s t : ℕ}
+    (g : (y : Option Part) → numberOf y ≡ e → Beside image index (triviaBefore y (partsFrom image index a b)) u v before)
+    (h : (y : Option Part) → numberOf y ≡ e → Beside image index (triviaAfter y (partsFrom image index a b)) s t after) where
   before-is : triviaBefore (first Class.Expr (partsOf image index 0)) (partsOf image index 0) ≡ aroundAt (found (before .foreign)) (listed index image before)
   before-is = rw (p, q) at (g (first Class.Expr (partsOf image index 0)) (sym f) .read)
 

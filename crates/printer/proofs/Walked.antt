@@ -4,25 +4,25 @@ use mathlib.Core.Bool.{Bool, true, false, false≢true, cond}
 use mathlib.Core.List.{List, [], _∷_}
 use Prim.Native.Nat.{ℕ}
 use native.Mathlib.Omega.{arith}
-use lib.Dec.{eqb}
 use lib.ListN.{length}
-use borrow.Author.Tests.{eq-eqb, ne-eqb}
 use Rattle.text.specs.Basic.{isNil}
 use Rattle.items.specs.Item.{Print, _⨟_, none}
 use Rattle.tree.specs.Tree.{Part}
 use Rattle.tree.specs.declared.class.Kinds.{Kinds}
 use Rattle.tree.specs.Index.{endAt, partsFrom, partAt}
+use Rattle.children.specs.declared.gap.End.{End}
+use Rattle.children.specs.declared.gap.End.the-variants as End
 use Rattle.children.specs.declared.gap.Span.{Span}
 use Rattle.children.specs.declared.survey.Outline.{Outline}
 use Rattle.children.specs.Reading.{Child, Ending, Reading, foreign, read, more, anyManyLines}
-use Rattle.children.specs.Gaps.{Gap, gapOf, Gaps, gaps}
+use Rattle.children.specs.Gaps.{Gap, gapOf, Gaps, gaps, isChild, isForeign, endedBy}
 use Rattle.children.specs.Gaps as G
 use Rattle.children.specs.Whole.{childAt, closedBy, preceded, readFrom, readingOf, sumsOf}
-use Rattle.children.specs.Lead.{childAfter, readingAfter, leadAt, leads, led, Leads}
-use Rattle.children.specs.Spans.{gapAt, spanned, Spans, surveyed}
+use Rattle.children.specs.Lead.{childAfter, readingAfter, leadAt, led}
+use Rattle.children.specs.Spans.{gapAt, spanned, Spans, Outlines, surveyed}
 use Rattle.printer.specs.Print.{withComments, children, values}
 use Rattle.printer.proofs.Seq.{seq-assoc}
-use Rattle.printer.specs.Walked.{frontOf, hasChild, unstopped, around, walked, walkedAfter, Outlined, Through}
+use Rattle.printer.specs.Walked.{frontOf, hasChild, around, walked, walkedAfter, Outlined}
 
 pub foreign-read : {A : Type 0} {n : ℕ} {cs : List Child} {e : Ending} → foreign n ≡ read cs e → A
 foreign-read h = let z : _≡_ {A = ℕ} 0 1 = cc in absurd (omega arith)
@@ -41,22 +41,9 @@ split c (read ds e) h = record { kids = ds; ending = e; is = refl; cons = cc }
 -- a reading from a child on has a child
 more-from : (gs : Gaps) (c : Child) {cs : List Child} {e : Ending} → readFrom c gs ≡ read cs e → more cs ≡ true
 unfolding readFrom
-more-from (G.stopped n) c h = foreign-read h
+more-from (G.stopped k n) c h = foreign-read h
 more-from (G.ending k) c {cs} h = let q : cs ≡ closedBy c k ∷ [] = cc in rw q
 more-from (G.Gaps.child k y gs) c h = rw (split (closedBy c k) (readFrom (childAt k y) gs) h .cons)
-
-unstopped-from : (gs : Gaps) (c : Child) {cs : List Child} {e : Ending} → readFrom c gs ≡ read cs e → unstopped gs ≡ true
-unfolding readFrom unstopped
-unstopped-from (G.stopped n) c h = foreign-read h
-unstopped-from (G.ending k) c h = refl
-unstopped-from (G.Gaps.child k y gs) c h = unstopped-from gs (childAt k y) (split (closedBy c k) (readFrom (childAt k y) gs) h .is)
-
--- what is read was not stopped
-unstopped-read : (gs : Gaps) {cs : List Child} {e : Ending} → readingOf gs ≡ read cs e → unstopped gs ≡ true
-unfolding readingOf unstopped
-unstopped-read (G.stopped n) h = foreign-read h
-unstopped-read (G.ending k) h = refl
-unstopped-read (G.Gaps.child k y gs) h = unstopped-from gs (childAt k y) h
 
 module _ (pr : ℕ → Print) (f g : Bool → Print) where
   -- a child, and those behind it
@@ -66,7 +53,7 @@ module _ (pr : ℕ → Print) (f g : Bool → Print) where
   -- the children from one on
   from-read : (gs : Gaps) (c : Child) {cs : List Child} {e : Ending} → readFrom c gs ≡ read cs e → children pr f g cs ≡ fromChild c gs
   unfolding readFrom children walked around withComments
-  from-read (G.stopped n) c h = foreign-read h
+  from-read (G.stopped k n) c h = foreign-read h
   from-read (G.ending k) c {cs} h = let q : cs ≡ closedBy c k ∷ [] = cc in rw q (sym (seq-assoc _ _ _))
   from-read (G.Gaps.child k y gs) c h =
       let s = split (closedBy c k) (readFrom (childAt k y) gs) h in
@@ -75,14 +62,14 @@ module _ (pr : ℕ → Print) (f g : Bool → Print) where
   -- A reading's children are printed by walking its gaps.
   pub walk-read : (gs : Gaps) {cs : List Child} {e : Ending} → readingOf gs ≡ read cs e → children pr f g cs ≡ walked pr f g gs
   unfolding readingOf children walked around withComments
-  walk-read (G.stopped n) h = foreign-read h
+  walk-read (G.stopped k n) h = foreign-read h
   walk-read (G.ending k) {cs} h = let q : cs ≡ [] = cc in rw q
   walk-read (G.Gaps.child k x gs) h = from-read gs (childAt k x) h
 
   -- And so are those of a reading with a trailing list.
   pub walk-after : (ts : List Part) (gs : Gaps) {cs : List Child} {e : Ending} → readingAfter ts gs ≡ read cs e → children pr f g cs ≡ walkedAfter pr f g ts gs
   unfolding readingAfter children walkedAfter around withComments
-  walk-after ts (G.stopped n) h = foreign-read h
+  walk-after ts (G.stopped k n) h = foreign-read h
   walk-after ts (G.ending k) {cs} h = let q : cs ≡ [] = cc in rw q
   walk-after ts (G.Gaps.child k x gs) {cs} {e} h = go (isNil (k .waiting)) h
     where
@@ -93,13 +80,13 @@ module _ (pr : ℕ → Print) (f g : Bool → Print) where
 module _ (pr : ℕ → Print) where
   -- the children of a reading, without what is around them
   unfoldable pub valued : Gaps → Print
-  valued (G.stopped n) = none
+  valued (G.stopped k n) = none
   valued (G.ending k) = none
   valued (G.Gaps.child k x gs) = pr (x .number) ⨟ valued gs
 
   from-value : (gs : Gaps) (c : Child) {cs : List Child} {e : Ending} → readFrom c gs ≡ read cs e → values pr cs ≡ pr (c .value .number) ⨟ valued gs
   unfolding readFrom values valued
-  from-value (G.stopped n) c h = foreign-read h
+  from-value (G.stopped k n) c h = foreign-read h
   from-value (G.ending k) c {cs} h = let q : cs ≡ closedBy c k ∷ [] = cc in rw q
   from-value (G.Gaps.child k y gs) c h =
       let s = split (closedBy c k) (readFrom (childAt k y) gs) h in
@@ -108,145 +95,113 @@ module _ (pr : ℕ → Print) where
   -- A reading's children alone are those of its gaps.
   pub value-read : (gs : Gaps) {cs : List Child} {e : Ending} → readingOf gs ≡ read cs e → values pr cs ≡ valued gs
   unfolding readingOf values valued
-  value-read (G.stopped n) h = foreign-read h
+  value-read (G.stopped k n) h = foreign-read h
   value-read (G.ending k) {cs} h = let q : cs ≡ [] = cc in rw q
   value-read (G.Gaps.child k x gs) h = from-value gs (childAt k x) h
 
-module _ {index image : List ℕ} {o : Outline} where
+module _ {index image : List ℕ} {o : Outline} {t : Bool} (i : t ≡ isForeign (o .last .end)) where
   -- a reading that ends is read
-  pub outlined : (r : Reading) → sumsOf r ≡ surveyed image index o → o .last .end ≡ 1 → Outlined image index r o
+  pub outlined : (r : Reading) → Outlines image index (sumsOf r) o → t ≡ false → Outlined image index r o
   unfolding sumsOf surveyed
-  outlined (foreign n) h e =
-      let q : G.Sums.foreignAt n ≡ G.sums (o .children) (o .many) (o .blank) (gapAt image index (o .last) .waiting) = rw e at h in
-      let z : _≡_ {A = ℕ} 0 1 = cc in
-      absurd (omega arith)
+  outlined (foreign n) h e = absurd (false≢true (sym e ∙ i ∙ rw (h .ends)))
   outlined (read cs k) h e =
-      let q : G.sums (length cs) (anyManyLines cs) (k .blankLine) (k .trivia) ≡ G.sums (o .children) (o .many) (o .blank) (gapAt image index (o .last) .waiting) = rw e at h in
+      let q : G.sums (length cs) (anyManyLines cs) (k .blankLine) (k .trivia) ≡ G.sums (o .children) (o .many) (o .blank) (gapAt image index (o .last) .waiting) = rw (h .ends) at (h .read) in
       record { kids = cs; ending = k; is = refl; count = cc; many = cc; blank = cc; waits = cc }
 
--- one that does not end stops at a foreign element
-pub outlined-foreign : (index image : List ℕ) (o : Outline) (r : Reading) → sumsOf r ≡ surveyed image index o → (o .last .end ≡ 1 → ⊥) → r ≡ foreign (o .last .to)
-unfolding sumsOf surveyed
-outlined-foreign index image o (foreign n) h e =
-    let q : G.Sums.foreignAt n ≡ G.Sums.foreignAt (o .last .to) = rw (ne-eqb (o .last .end) 1 e) at h in
-    let m : n ≡ o .last .to = cc in
-    rw m
-outlined-foreign index image o (read cs k) h e =
-    let q : G.sums (length cs) (anyManyLines cs) (k .blankLine) (k .trivia) ≡ G.Sums.foreignAt (o .last .to) = rw (ne-eqb (o .last .end) 1 e) at h in
-    let z : _≡_ {A = ℕ} 0 1 = cc in
-    absurd (omega arith)
+  -- one that does not end stops at a foreign element
+  pub outlined-foreign : (r : Reading) → Outlines image index (sumsOf r) o → t ≡ true → r ≡ foreign (o .last .to)
+  unfolding sumsOf surveyed
+  outlined-foreign (foreign n) h e =
+      let q : G.Sums.foreignAt n ≡ G.Sums.foreignAt (o .last .to) = rw (h .ends) at (h .read) in
+      let m : n ≡ o .last .to = cc in
+      rw m
+  outlined-foreign (read cs k) h e = absurd (false≢true (sym (i ∙ rw (h .ends)) ∙ e))
 
--- at the first span
-pub through-first : {index image : List ℕ} {w : Kinds} {loose : Bool} {from b : ℕ} {s : Span} {cs : List Child} {e : Ending}
-    → Spans image index w loose false from b s → readingOf (gaps w loose true false (partsFrom image index from b)) ≡ read cs e → Through image index w loose b s
-through-first {index} {image} {w} {loose} {from} {b} h e = record { ends = rw (h .read) at (unstopped-read (gaps w loose true false (partsFrom image index from b)) e) }
+-- ---- a gap by what ends it
 
--- what a span is, by the tests of its end
-abbrev spanBy : Bool → Bool → Gap → Part → Gaps → ℕ → Gaps
-spanBy u v a x gs n = cond u (G.Gaps.child a x gs) (cond v (G.ending a) (G.stopped n))
+child-by : (d : End) (a : Gap) (x : Part) (gs : Gaps) → hasChild (endedBy d a x gs) ≡ isChild d
+child-by End.Child a x gs = refl
+child-by End.Last a x gs = refl
+child-by End.Foreign a x gs = refl
 
-child-by : (u v : Bool) (a : Gap) (x : Part) (gs : Gaps) (n : ℕ) → hasChild (spanBy u v a x gs n) ≡ u
-child-by true v a x gs n = refl
-child-by false true a x gs n = refl
-child-by false false a x gs n = refl
+front-by : (d : End) (a : Gap) (x : Part) (gs : Gaps) → frontOf (endedBy d a x gs) ≡ a
+front-by End.Child a x gs = refl
+front-by End.Last a x gs = refl
+front-by End.Foreign a x gs = refl
 
-front-by : (u v : Bool) (a : Gap) (x : Part) (gs : Gaps) (n : ℕ) → unstopped (spanBy u v a x gs n) ≡ true → frontOf (spanBy u v a x gs n) ≡ a
-unfolding unstopped
-front-by true v a x gs n h = refl
-front-by false true a x gs n h = refl
-front-by false false a x gs n h = absurd (false≢true h)
+-- no child, no step
+module _ (pr : ℕ → Print) (a : Gap) (x : Part) (gs : Gaps) where
+  walk-by : (f g : Bool → Print) (d : End) → isChild d ≡ false → walked pr f g (endedBy d a x gs) ≡ none
+  unfolding walked
+  walk-by f g End.Child h = absurd (false≢true (sym h))
+  walk-by f g End.Last h = refl
+  walk-by f g End.Foreign h = refl
+
+  value-by : (d : End) → isChild d ≡ false → valued pr (endedBy d a x gs) ≡ none
+  unfolding valued
+  value-by End.Child h = absurd (false≢true (sym h))
+  value-by End.Last h = refl
+  value-by End.Foreign h = refl
+
+  after-by : (f g : Bool → Print) (ts : List Part) (d : End) → isChild d ≡ false → walkedAfter pr f g ts (endedBy d a x gs) ≡ none
+  unfolding walkedAfter
+  after-by f g ts End.Child h = absurd (false≢true (sym h))
+  after-by f g ts End.Last h = refl
+  after-by f g ts End.Foreign h = refl
 
 module _ (index image : List ℕ) (w : Kinds) (loose : Bool) (b : ℕ) (s : Span) where
   -- a span with a child
-  opened : s .end ≡ 0 → spanned image index w loose b s ≡ G.Gaps.child (gapAt image index s) (partAt image index (s .to)) (gaps w loose false true (partsFrom image index (endAt index (s .to)) b))
+  opened : s .end ≡ End.Child → spanned image index w loose b s ≡ G.Gaps.child (gapAt image index s) (partAt image index (s .to)) (gaps w loose false true (partsFrom image index (endAt index (s .to)) b))
   unfolding spanned
-  opened e = rw (eq-eqb (s .end) 0 e)
+  opened e = rw e
 
   -- whether it has one
-  tested : hasChild (spanned image index w loose b s) ≡ eqb (s .end) 0
+  tested : hasChild (spanned image index w loose b s) ≡ isChild (s .end)
   unfolding spanned
-  tested = child-by (eqb (s .end) 0) (eqb (s .end) 1) _ _ _ _
+  tested = child-by (s .end) _ _ _
 
-  -- its gap is the first, but where a foreign element stops the reading
-  fronted : unstopped (spanned image index w loose b s) ≡ true → frontOf (spanned image index w loose b s) ≡ gapAt image index s
+  -- its gap is the first
+  fronted : frontOf (spanned image index w loose b s) ≡ gapAt image index s
   unfolding spanned
-  fronted h = front-by (eqb (s .end) 0) (eqb (s .end) 1) _ _ _ _ h
+  fronted = front-by (s .end) _ _ _
 
-  -- no child, no step
-  pub walk-none : (pr : ℕ → Print) (f g : Bool → Print) → (s .end ≡ 0 → ⊥) → walked pr f g (spanned image index w loose b s) ≡ none
-  unfolding walked spanned
-  walk-none pr f g h = rw (ne-eqb (s .end) 0 h) (go (eqb (s .end) 1))
-    where
-      go : (v : Bool) → walked pr f g (cond v (G.ending (gapAt image index s)) (G.stopped (s .to))) ≡ none
-      go true = refl
-      go false = refl
-
-  pub value-none : (pr : ℕ → Print) → (s .end ≡ 0 → ⊥) → valued pr (spanned image index w loose b s) ≡ none
-  unfolding valued spanned
-  value-none pr h = rw (ne-eqb (s .end) 0 h) (go (eqb (s .end) 1))
-    where
-      go : (v : Bool) → valued pr (cond v (G.ending (gapAt image index s)) (G.stopped (s .to))) ≡ none
-      go true = refl
-      go false = refl
-
-module _ {index image : List ℕ} {w : Kinds} {loose : Bool} {b next : ℕ} {t : Span} where
-  -- a span with a child, and the span behind that child
-  stepped : (s : Span) → s .end ≡ 0 → next ≡ endAt index (s .to) → Spans image index w loose true next b t
-      → spanned image index w loose b s ≡ G.Gaps.child (gapAt image index s) (partAt image index (s .to)) (spanned image index w loose b t)
-  stepped s e q h = opened index image w loose b s e ∙ rw (← q, h .read)
-
-  -- the reading comes to its end from there too
-  pub through-next : {s : Span} → Through image index w loose b s → s .end ≡ 0 → next ≡ endAt index (s .to) → Spans image index w loose true next b t → Through image index w loose b t
-  unfolding unstopped
-  through-next {s} u e q h = record { ends = rw (stepped s e q h) at (u .ends) }
-
-  -- a step with comments
-  pub walk-next : (pr : ℕ → Print) (f g : Bool → Print) {s : Span} → Through image index w loose b s → s .end ≡ 0 → next ≡ endAt index (s .to) → Spans image index w loose true next b t
-      → walked pr f g (spanned image index w loose b s) ≡ around pr f g (gapAt image index s) (s .to) (gapAt image index t) (eqb (t .end) 0) ⨟ walked pr f g (spanned image index w loose b t)
-  unfolding walked
-  walk-next pr f g {s} u e q h = rw (stepped s e q h, fronted index image w loose b t (through-next u e q h .ends), tested index image w loose b t)
-
-  -- a step without
-  pub value-next : (pr : ℕ → Print) (s : Span) → s .end ≡ 0 → next ≡ endAt index (s .to) → Spans image index w loose true next b t
-      → valued pr (spanned image index w loose b s) ≡ pr (s .to) ⨟ valued pr (spanned image index w loose b t)
-  unfolding valued
-  value-next pr s e q h = rw (stepped s e q h)
-
-unstopped-after : (ts : List Part) (a : Gap) (x : Part) (gs : Gaps) {cs : List Child} {e : Ending} → readingAfter ts (G.Gaps.child a x gs) ≡ read cs e → unstopped gs ≡ true
-unfolding readingAfter
-unstopped-after ts a x gs {cs} {e} h = go (isNil (a .waiting)) h
-  where
-    go : (t : Bool) → cond t (readFrom (childAfter ts x) gs) (foreign (x .number)) ≡ read cs e → unstopped gs ≡ true
-    go true h = unstopped-from gs (childAfter ts x) h
-    go false h = foreign-read h
-
-module _ (index image : List ℕ) (w : Kinds) (loose : Bool) (b : ℕ) (s : Span) where
-  led-opened : s .end ≡ 0 → led image index w loose b s ≡ G.Gaps.child (leadAt image index s) (partAt image index (s .to)) (gaps w loose false true (partsFrom image index (endAt index (s .to)) b))
+  led-opened : s .end ≡ End.Child → led image index w loose b s ≡ G.Gaps.child (leadAt image index s) (partAt image index (s .to)) (gaps w loose false true (partsFrom image index (endAt index (s .to)) b))
   unfolding led
-  led-opened e = rw (eq-eqb (s .end) 0 e)
+  led-opened e = rw e
 
-  -- no child, no step
-  pub lead-none : (pr : ℕ → Print) (f g : Bool → Print) (ts : List Part) → (s .end ≡ 0 → ⊥) → walkedAfter pr f g ts (led image index w loose b s) ≡ none
-  unfolding walkedAfter led
-  lead-none pr f g ts h = rw (ne-eqb (s .end) 0 h) (go (eqb (s .end) 1))
-    where
-      go : (v : Bool) → walkedAfter pr f g ts (cond v (G.ending (leadAt image index s)) (G.stopped (s .to))) ≡ none
-      go true = refl
-      go false = refl
+  module _ (pr : ℕ → Print) {t : Bool} (i : t ≡ isChild (s .end)) (h : t ≡ false) where
+    pub walk-none : (f g : Bool → Print) → walked pr f g (spanned image index w loose b s) ≡ none
+    unfolding spanned
+    walk-none f g = walk-by pr _ _ _ f g (s .end) (sym i ∙ h)
 
-module _ {index image : List ℕ} {w : Kinds} {loose : Bool} {b next : ℕ} {t : Span} where
-  -- the first span and the one behind its child
-  led-stepped : (s : Span) → s .end ≡ 0 → next ≡ endAt index (s .to) → Spans image index w loose true next b t
-      → led image index w loose b s ≡ G.Gaps.child (leadAt image index s) (partAt image index (s .to)) (spanned image index w loose b t)
-  led-stepped s e q h = led-opened index image w loose b s e ∙ rw (← q, h .read)
+    pub value-none : valued pr (spanned image index w loose b s) ≡ none
+    unfolding spanned
+    value-none = value-by pr _ _ _ (s .end) (sym i ∙ h)
 
-  -- behind the first child
-  pub through-lead : (ts : List Part) {from : ℕ} {s : Span} {cs : List Child} {e : Ending} → Leads image index w loose from b s → readingAfter ts (leads w loose (partsFrom image index from b)) ≡ read cs e
-      → s .end ≡ 0 → next ≡ endAt index (s .to) → Spans image index w loose true next b t → Through image index w loose b t
-  through-lead ts {s = s} l r e q h = record { ends = unstopped-after ts (leadAt image index s) (partAt image index (s .to)) (spanned image index w loose b t) (rw (l .read, led-stepped s e q h) at r) }
+    pub lead-none : (f g : Bool → Print) (ts : List Part) → walkedAfter pr f g ts (led image index w loose b s) ≡ none
+    unfolding led
+    lead-none f g ts = after-by pr _ _ _ f g ts (s .end) (sym i ∙ h)
 
-  -- the first step
-  pub walk-lead : (pr : ℕ → Print) (f g : Bool → Print) (ts : List Part) (s : Span) → Through image index w loose b t → s .end ≡ 0 → next ≡ endAt index (s .to) → Spans image index w loose true next b t
-      → walkedAfter pr f g ts (led image index w loose b s) ≡ around pr f g (gapOf [] ts false) (s .to) (gapAt image index t) (eqb (t .end) 0) ⨟ walked pr f g (spanned image index w loose b t)
-  unfolding walkedAfter
-  walk-lead pr f g ts s u e q h = rw (led-stepped s e q h, fronted index image w loose b t (u .ends), tested index image w loose b t)
+module _ {index image : List ℕ} {w : Kinds} {loose : Bool} {b next : ℕ} {t : Span} (s : Span) (e : s .end ≡ End.Child) (q : next ≡ endAt index (s .to)) (h : Spans image index w loose true next b t) where
+  -- a span with a child, and the span behind that child
+  stepped : spanned image index w loose b s ≡ G.Gaps.child (gapAt image index s) (partAt image index (s .to)) (spanned image index w loose b t)
+  stepped = opened index image w loose b s e ∙ rw (← q, h .read)
+
+  led-stepped : led image index w loose b s ≡ G.Gaps.child (leadAt image index s) (partAt image index (s .to)) (spanned image index w loose b t)
+  led-stepped = led-opened index image w loose b s e ∙ rw (← q, h .read)
+
+  -- a step without comments
+  pub value-next : (pr : ℕ → Print) → valued pr (spanned image index w loose b s) ≡ pr (s .to) ⨟ valued pr (spanned image index w loose b t)
+  unfolding valued
+  value-next pr = rw stepped
+
+  module _ (pr : ℕ → Print) (f g : Bool → Print) where
+    -- a step with comments
+    pub walk-next : walked pr f g (spanned image index w loose b s) ≡ around pr f g (gapAt image index s) (s .to) (gapAt image index t) (isChild (t .end)) ⨟ walked pr f g (spanned image index w loose b t)
+    unfolding walked
+    walk-next = rw (stepped, fronted index image w loose b t, tested index image w loose b t)
+
+    -- the first step of a reading with a trailing list
+    pub walk-lead : (ts : List Part) → walkedAfter pr f g ts (led image index w loose b s) ≡ around pr f g (gapOf [] ts false) (s .to) (gapAt image index t) (isChild (t .end)) ⨟ walked pr f g (spanned image index w loose b t)
+    unfolding walkedAfter
+    walk-lead ts = rw (led-stepped, fronted index image w loose b t, tested index image w loose b t)

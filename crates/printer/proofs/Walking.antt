@@ -5,7 +5,6 @@ use mathlib.Core.Option.{none as nothing, some}
 use mathlib.Core.List.{List, []}
 use Prim.Native.Nat.{ℕ, _-_, _<_, _≤_}
 use native.Mathlib.Omega.{arith}
-use lib.Dec.{eqb}
 use lib.ListN.{length}
 use Rattle.items.specs.Item.{Test, Print, none, stopped}
 use Rattle.plan.specs.Ops.{sourceAt}
@@ -22,9 +21,9 @@ use Rattle.children.specs.declared.gap.Span.{Span}
 use Rattle.children.specs.declared.survey.Outline.{Outline}
 use Rattle.children.specs.Reading.{Reading, foreign, read, pass}
 use Rattle.children.specs.Lead.{SurveyedAfter}
-use Rattle.children.specs.Gaps.{Gap, gapOf}
+use Rattle.children.specs.Gaps.{Gap, gapOf, isChild, isForeign}
 use Rattle.children.specs.Spans.{Lies, Spans, Surveyed, spanned, gapAt}
-use Rattle.children.proofs.Uses.{span-reached, survey-reading, survey-after-reading}
+use Rattle.children.proofs.Uses.{child-is, span-reached, survey-reading, survey-after-reading}
 use Rattle.children.proofs.Whole.{whole}
 use Rattle.children.proofs.Stretch.{jumps-le}
 use Rattle.printer.specs.declared.lists.Style.{Style}
@@ -42,20 +41,20 @@ use Rattle.printer.proofs.Readings.{walks-first, walks-kid, walks-next}
 
 module _ (c : Class) {image index : List ℕ} {z : Bounds} {w : Kinds} {o : Outline} (k : w ≡ kinds c) (h : Surveyed image index w (z .loose) (z .from) (z .to) o) where
   -- the reading comes to its end
-  pub survey-outlined : o .last .end ≡ 1 → Outlined image index (readAt image index c z nothing) o
-  survey-outlined e = outlined _ (survey-reading c (rw k at h)) e
+  pub survey-outlined : {t : Bool} → t ≡ isForeign (o .last .end) → t ≡ false → Outlined image index (readAt image index c z nothing) o
+  survey-outlined i e = outlined i _ (survey-reading c (rw k at h)) e
 
   -- a foreign element stands in it
-  pub survey-foreign : (o .last .end ≡ 1 → ⊥) → readAt image index c z nothing ≡ foreign (o .last .to)
-  survey-foreign e = outlined-foreign index image o _ (survey-reading c (rw k at h)) e
+  pub survey-foreign : {t : Bool} → t ≡ isForeign (o .last .end) → t ≡ true → readAt image index c z nothing ≡ foreign (o .last .to)
+  survey-foreign i e = outlined-foreign i _ (survey-reading c (rw k at h)) e
 
 -- the same of a reading whose trailing list is what waits in the gap s
 module _ (c : Class) {image index : List ℕ} {z : Bounds} {w : Kinds} {s : Span} {o : Outline} (k : w ≡ kinds c) (h : SurveyedAfter image index w (z .loose) s (z .from) (z .to) o) where
-  pub after-outlined : o .last .end ≡ 1 → Outlined image index (readAt image index c z (some (gapAt image index s .waiting))) o
-  after-outlined e = outlined _ (survey-after-reading c (rw k at h)) e
+  pub after-outlined : {t : Bool} → t ≡ isForeign (o .last .end) → t ≡ false → Outlined image index (readAt image index c z (some (gapAt image index s .waiting))) o
+  after-outlined i e = outlined i _ (survey-after-reading c (rw k at h)) e
 
-  pub after-foreign : (o .last .end ≡ 1 → ⊥) → readAt image index c z (some (gapAt image index s .waiting)) ≡ foreign (o .last .to)
-  after-foreign e = outlined-foreign index image o _ (survey-after-reading c (rw k at h)) e
+  pub after-foreign : {t : Bool} → t ≡ isForeign (o .last .end) → t ≡ true → readAt image index c z (some (gapAt image index s .waiting)) ≡ foreign (o .last .to)
+  after-foreign i e = outlined-foreign i _ (survey-after-reading c (rw k at h)) e
 
 -- a reading that comes to its end has no foreign element
 pub outlined-whole : {index image : List ℕ} {r : Reading} {o : Outline} → Outlined image index r o → Whole r
@@ -82,20 +81,21 @@ module _ (index image : List ℕ) (s : Span) {t : Span} (e : t ≡ record { from
 pub spans-as : {index image : List ℕ} {w v : Kinds} {loose after : Bool} {from b : ℕ} {s : Span} → w ≡ v → Spans image index w loose after from b s → Spans image index v loose after from b s
 spans-as e h = rw (← e) h
 
-module _ {image index : List ℕ} {i : ℕ} {w : Kinds} {loose : Bool} {b next : ℕ} {s : Span} (h : Walks image index i w loose b s) (e : s .end ≡ 0) (q : next ≡ endAt index (s .to)) where
+module _ {image index : List ℕ} {i : ℕ} {w : Kinds} {loose : Bool} {b next : ℕ} {s : Span} (h : Walks image index i w loose b s) {t : Bool} (j : t ≡ isChild (s .end)) (e : t ≡ true) (q : next ≡ endAt index (s .to)) where
   -- where it may be looked for
   pub walks-region : Region image index next b
   walks-region =
       let t = table (h .at .indexed) in
-      let k = walks-kid h e in
+      let k = walks-kid h (child-is (s .end) j e) in
       rw q (record { n = _; table = t; begins = t .inside (s .to) (kid-at k .within); ends = omega (arith, h .inside, t .inside i (h .at .within)) })
 
   -- it ends further on
-  pub walks-less : {t : Span} → Spans image index w loose true next b t → b - t .to < b - s .to
+  pub walks-less : {g : Span} → Spans image index w loose true next b g → b - g .to < b - s .to
   walks-less k =
       let r = span-reached k in
-      let p = table (h .at .indexed) .past (s .to) (kid-at (walks-kid h e) .within) in
-      omega (arith, h .onward e, jumps-le (r .table) (r .jumps))
+      let d = child-is (s .end) j e in
+      let p = table (h .at .indexed) .past (s .to) (kid-at (walks-kid h d) .within) in
+      omega (arith, h .onward d, jumps-le (r .table) (r .jumps))
 
 -- ---- children with what stands around them
 
@@ -108,44 +108,47 @@ module _ {image index : List ℕ} {i : ℕ} {w : Kinds} {loose : Bool} {b : ℕ}
   pub walking-none : (c : Class) → w ≡ kinds c → Walks image index i (kinds c) loose b s → Walking image index i w loose b style t s o o s
   walking-none c k h = record { walks = rw k h; goes = goes-none _ o }
 
-  pub walking-more : {s₀ g : Span} {a d : Held} {next : ℕ} → Walking image index i w loose b style t s₀ o a s → s .end ≡ 0 → next ≡ endAt index (s .to) → Spans image index w loose true next b g
-      → Plans (sourceAt image index) (around (under image i) (onLine style t) (behindIt style t) (gapAt image index s) (s .to) (gapAt image index g) (eqb (g .end) 0)) a d → Walking image index i w loose b style t s₀ o d g
-  walking-more h e q k p = record {
-    walks = walks-next (h .walks) e q k;
-    goes = goes-more (h .goes) (walk-next (under image i) (onLine style t) (behindIt style t) (h .walks .through) e q k) p;
-  }
+  pub walking-more : {s₀ g : Span} {a d : Held} {next : ℕ} {v : Bool} → Walking image index i w loose b style t s₀ o a s → v ≡ isChild (s .end) → v ≡ true → next ≡ endAt index (s .to) → Spans image index w loose true next b g
+      → Plans (sourceAt image index) (around (under image i) (onLine style t) (behindIt style t) (gapAt image index s) (s .to) (gapAt image index g) (isChild (g .end))) a d → Walking image index i w loose b style t s₀ o d g
+  walking-more h j e q k p =
+      let d = child-is (s .end) j e in
+      record {
+        walks = walks-next (h .walks) d q k;
+        goes = goes-more (h .goes) (walk-next s d q k (under image i) (onLine style t) (behindIt style t)) p;
+      }
 
-  pub walking-all : (c : Class) {s₀ : Span} {a : Held} → w ≡ kinds c → Walking image index i w loose b style t s₀ o a s → (s .end ≡ 0 → ⊥)
+  pub walking-all : (c : Class) {s₀ : Span} {a : Held} {v : Bool} → w ≡ kinds c → Walking image index i w loose b style t s₀ o a s → v ≡ isChild (s .end) → v ≡ false
       → Plans (sourceAt image index) (walked (under image i) (onLine style t) (behindIt style t) (spanned image index (kinds c) loose b s₀)) o a
-  walking-all c k h e = rw (← k) (goes-all (h .goes) (walk-none index image w loose b s (under image i) (onLine style t) (behindIt style t) e))
+  walking-all c k h j e = rw (← k) (goes-all (h .goes) (walk-none index image w loose b s (under image i) j e (onLine style t) (behindIt style t)))
 
 -- ---- children without what stands around them
 
--- The values from the gap s on are still to be printed, of those from the gap s₀ on.
-pub record Valuing (image index : List ℕ) (i : ℕ) (w : Kinds) (loose : Bool) (b : ℕ) (s₀ : Span) (o a : Held) (s : Span) : Type 0 where
-  pub walks : Walks image index i w loose b s
-  pub goes : Goes (sourceAt image index) (valued (under image i) (spanned image index w loose b s₀)) (valued (under image i) (spanned image index w loose b s)) o a
+-- The values from the gap s on are still to be printed, of those from the gap s₀ on, whatever element the reading is of.
+pub record Valuing (image index : List ℕ) (w : Kinds) (z : Bounds) (s₀ : Span) (o a : Held) (s : Span) : Type 0 where
+  pub walks : {i : ℕ} → Within image index i z → Walks image index i w (z .loose) (z .to) s
+  pub goes : {i : ℕ} → Within image index i z
+      → Goes (sourceAt image index) (valued (under image i) (spanned image index w (z .loose) (z .to) s₀)) (valued (under image i) (spanned image index w (z .loose) (z .to) s)) o a
 
-module _ {image index : List ℕ} {i : ℕ} {w : Kinds} {s : Span} {o : Held} where
-  pub valuing-more : {loose : Bool} {b : ℕ} {s₀ g : Span} {a d : Held} {next : ℕ} → Valuing image index i w loose b s₀ o a s → s .end ≡ 0 → next ≡ endAt index (s .to)
-      → Spans image index w loose true next b g → Plans (sourceAt image index) (printOf image (s .to)) a d → Valuing image index i w loose b s₀ o d g
-  valuing-more h e q k p = record {
-    walks = walks-next (h .walks) e q k;
-    goes = goes-more (h .goes) (value-next (under image i) s e q k) (by (kid-print (walks-kid (h .walks) e)) p);
-  }
+module _ {image index : List ℕ} {w : Kinds} {z : Bounds} {s : Span} {o : Held} where
+  pub valuing-none : (c : Class) → w ≡ kinds c → Spans image index w (z .loose) false (z .from) (z .to) s → Valuing image index w z s o o s
+  valuing-none c k p = record { walks = λ h. rw k (walks-first c h (rw k at p)); goes = λ h. goes-none _ o }
 
-module _ {image index : List ℕ} {i : ℕ} {w : Kinds} {z : Bounds} {s : Span} {o : Held} where
-  pub valuing-none : (c : Class) {out : Outline} → Within image index i z → w ≡ kinds c → Spans image index w (z .loose) false (z .from) (z .to) s → Outlined image index (readAt image index c z nothing) out
-      → Valuing image index i w (z .loose) (z .to) s o o s
-  valuing-none c h k p x = record { walks = rw k (walks-first c h (rw k at p) (outlined-whole x)); goes = goes-none _ o }
+  pub valuing-more : {s₀ g : Span} {a d : Held} {next : ℕ} {v : Bool} → Valuing image index w z s₀ o a s → v ≡ isChild (s .end) → v ≡ true → next ≡ endAt index (s .to)
+      → Spans image index w (z .loose) true next (z .to) g → Plans (sourceAt image index) (printOf image (s .to)) a d → Valuing image index w z s₀ o d g
+  valuing-more r j e q k p =
+      let d = child-is (s .end) j e in
+      record {
+        walks = λ h. walks-next (r .walks h) d q k;
+        goes = λ h. goes-more (r .goes h) (value-next s d q k (under image _)) (by (kid-print (walks-kid (r .walks h) d)) p);
+      }
 
   -- the values of a reading
-  pub valuing-all : (c : Class) {s₀ : Span} {a : Held} {out : Outline} → w ≡ kinds c → Spans image index w (z .loose) false (z .from) (z .to) s₀ → Outlined image index (readAt image index c z nothing) out
-      → Valuing image index i w (z .loose) (z .to) s₀ o a s → (s .end ≡ 0 → ⊥) → Plans (sourceAt image index) (valuesOf (under image i) (readAt image index c z nothing)) o a
+  pub valuing-all : (c : Class) {i : ℕ} {s₀ : Span} {a : Held} {out : Outline} {v : Bool} → Within image index i z → w ≡ kinds c → Spans image index w (z .loose) false (z .from) (z .to) s₀
+      → Outlined image index (readAt image index c z nothing) out → Valuing image index w z s₀ o a s → v ≡ isChild (s .end) → v ≡ false → Plans (sourceAt image index) (valuesOf (under image i) (readAt image index c z nothing)) o a
   unfolding valuesOf
-  valuing-all c k p x h e =
+  valuing-all c {i} n k p x h j e =
       by (rw (x .is, value-read (under image i) _ (sym (whole c (z .loose) _) ∙ x .is), ← k, p .read))
-      (goes-all (h .goes) (value-none index image w (z .loose) (z .to) s (under image i) e))
+      (goes-all (h .goes n) (value-none index image w (z .loose) (z .to) s (under image i) j e))
 
 -- no element
 pub values-over : (pr : ℕ → Print) (c : Class) (index image : List ℕ) (z : Bounds) → z .to ≤ z .from → valuesOf pr (readAt image index c z nothing) ≡ none

@@ -20,7 +20,7 @@ use Rattle.children.specs.declared.gap.Span.{Span}
 use Rattle.children.specs.declared.survey.Outline.{Outline}
 use Rattle.children.specs.Between.{Bounded}
 use Rattle.plan.specs.Comments.{comments}
-use Rattle.children.specs.Gaps.{Gap}
+use Rattle.children.specs.Gaps.{Gap, isChild}
 use Rattle.children.specs.Reading.{Child, Ending, Reading, enclosed}
 use Rattle.children.specs.Spans.{gapAt, spanned}
 use Rattle.children.specs.Stretch.{notes}
@@ -104,11 +104,11 @@ walkedIn image index i style t c loose b s =
 -- the child j of element i between the gaps s and g
 abbrev pub aroundIn : Lent → Lent → ℕ → Style → Condition → Span → ℕ → Span → Print
 aroundIn image index i style t s j g =
-    around (underIn image i) (onLine style (conditionTest t)) (behindIt style (conditionTest t)) (gapIn image index s) j (gapIn image index g) (eqb (g .end) 0)
+    around (underIn image i) (onLine style (conditionTest t)) (behindIt style (conditionTest t)) (gapIn image index s) j (gapIn image index g) (isChild (g .end))
 
 -- what follows a child, with the gap g behind it
 abbrev pub followingIn : Lent → Lent → Style → Condition → Span → Print
-followingIn image index style t g = following (onLine style (conditionTest t)) (behindIt style (conditionTest t)) (gapIn image index g) (eqb (g .end) 0)
+followingIn image index style t g = following (onLine style (conditionTest t)) (behindIt style (conditionTest t)) (gapIn image index g) (isChild (g .end))
 
 -- a list of element i
 abbrev pub listIn : Lent → Lent → ℕ → ListKind → Print

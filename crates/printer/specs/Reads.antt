@@ -12,6 +12,7 @@ use Rattle.tree.specs.declared.class.Kinds.{Kinds}
 use Rattle.tree.specs.Class.{nth, plusOf}
 use Rattle.tree.specs.Index.{Region, partsFrom, endAt}
 use Rattle.children.specs.declared.between.Bounds.{Bounds}
+use Rattle.children.specs.declared.gap.End.the-variants as End
 use Rattle.children.specs.declared.gap.Span.{Span}
 use Rattle.children.specs.Reading.{Child, Ending, Reading, foreign, read, pass, start}
 use Rattle.children.specs.Stretch.{Stretch}
@@ -20,7 +21,6 @@ use Rattle.children.specs.Between.{has}
 use Rattle.printer.specs.declared.rows.Entry.{Entry}
 use Rattle.printer.specs.Rows.{wantAt}
 use Rattle.printer.specs.Under.{At}
-use Rattle.printer.specs.Walked.{Through}
 
 -- ---- parts by their numbers
 
@@ -66,8 +66,7 @@ kidsIn (read cs e) = cs
 -- A walk over the children of element i may go on at the gap s.
 pub record Walks (image index : List ℕ) (i : ℕ) (w : Kinds) (loose : Bool) (b : ℕ) (s : Span) : Type 0 where
   pub at : At image index i
-  pub through : Through image index w loose b s
   pub lies : Lies image index s
-  pub onward : s .end ≡ 0 → s .to < b
+  pub onward : s .end ≡ End.Child → s .to < b
   pub reached : Stretch image index (i + 1) (s .to)
   pub inside : b ≤ endAt index i

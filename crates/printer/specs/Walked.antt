@@ -1,4 +1,4 @@
--- A reading's children printed gap by gap: what is printed around each child, and what a walk over spans asks and keeps.
+-- A reading's children printed gap by gap: what is printed around each child, and what a survey says.
 use mathlib.Core.Path.{_≡_}
 use mathlib.Core.Bool.{Bool, true, false, _&&_}
 use mathlib.Core.List.{List, []}
@@ -8,34 +8,26 @@ use lib.ListN.{length}
 use Rattle.items.specs.Item.{Print, _⨟_, none}
 use Rattle.comments.specs.Comments.{aboveItem, itemInline}
 use Rattle.tree.specs.Tree.{Part}
-use Rattle.tree.specs.declared.class.Kinds.{Kinds}
-use Rattle.children.specs.declared.gap.Span.{Span}
 use Rattle.children.specs.declared.survey.Outline.{Outline}
 use Rattle.plan.specs.Comments.{comments}
 use Rattle.children.specs.Reading.{Child, Ending, Reading, read, anyManyLines}
 use Rattle.children.specs.Gaps.{Gap, gapOf, newlinesAt, Gaps}
 use Rattle.children.specs.Gaps as G
-use Rattle.children.specs.Spans.{gapAt, spanned}
+use Rattle.children.specs.Spans.{gapAt}
 use Rattle.printer.specs.Combine.{newlineIf}
 use Rattle.printer.specs.Print.{children}
 
--- the first of some gaps; a reading that stops has none, and is not printed
+-- the first of some gaps
 abbrev pub frontOf : Gaps → Gap
-frontOf (G.stopped n) = gapOf [] [] false
+frontOf (G.stopped g n) = g
 frontOf (G.ending g) = g
 frontOf (G.Gaps.child g x gs) = g
 
 -- a child stands behind it
 abbrev pub hasChild : Gaps → Bool
-hasChild (G.stopped n) = false
+hasChild (G.stopped g n) = false
 hasChild (G.ending g) = false
 hasChild (G.Gaps.child g x gs) = true
-
--- no foreign element stops the reading
-unfoldable pub unstopped : Gaps → Bool
-unstopped (G.stopped n) = false
-unstopped (G.ending g) = true
-unstopped (G.Gaps.child g x gs) = unstopped gs
 
 -- ---- children with their comments
 
@@ -47,13 +39,13 @@ module _ (pr : ℕ → Print) (f g : Bool → Print) where
 
   -- the children of a reading, gap by gap
   unfoldable pub walked : Gaps → Print
-  walked (G.stopped n) = none
+  walked (G.stopped k n) = none
   walked (G.ending k) = none
   walked (G.Gaps.child k x gs) = around k (x .number) (frontOf gs) (hasChild gs) ⨟ walked gs
 
   -- the same with a trailing list, which stands before the first child
   unfoldable pub walkedAfter : List Part → Gaps → Print
-  walkedAfter ts (G.stopped n) = none
+  walkedAfter ts (G.stopped k n) = none
   walkedAfter ts (G.ending k) = none
   walkedAfter ts (G.Gaps.child k x gs) = around (gapOf [] ts false) (x .number) (frontOf gs) (hasChild gs) ⨟ walked gs
 
@@ -68,9 +60,3 @@ pub record Outlined (image index : List ℕ) (r : Reading) (o : Outline) : Type 
   pub many : anyManyLines kids ≡ o .many
   pub blank : ending .blankLine ≡ o .blank
   pub waits : ending .trivia ≡ gapAt image index (o .last) .waiting
-
--- ---- a walk over spans
-
--- The reading from the span s on comes to its end.
-pub record Through (image index : List ℕ) (w : Kinds) (loose : Bool) (b : ℕ) (s : Span) : Type 0 where
-  pub ends : unstopped (spanned image index w loose b s) ≡ true

@@ -12,6 +12,7 @@ use comments::CommentLocation;
 use items::Signal;
 use look::first_in;
 use look::first_of;
+use numbers::Element;
 use plan::notes::plan_notes;
 use plan::plan_signal;
 use plan::stop_at;
@@ -37,8 +38,8 @@ pub fn plan_source(ops: &mut [u32], cells: &mut [u32; 8], image: &[u8], index: &
     requires { ⌜ Indexed (now image) (now index) ⌝ }
     ensures { λ _. ⌜ PlansIn ops cells image index (sourceFile (treeOf (now (image .entry)))) ⌝ }
 {
-    let e = first_of(image, index, ROOT, Class::Expr);
-    let a = first_in(image, index, ROOT);
+    let e = first_of(image, index, Element(ROOT), Class::Expr);
+    let a = first_in(image, index, Element(ROOT));
     let b = end_at(index, ROOT);
     let before = trivia_before(image, index, e, a, b);
     let after = trivia_after(image, index, e, a, b);
@@ -80,7 +81,7 @@ fn plan_whole(
         before.to,
         CommentLocation::AboveItem,
     );
-    part(ops, cells, image, index, ROOT, e, MISSING_EXPR);
+    part(ops, cells, image, index, Element(ROOT), e, MISSING_EXPR);
     plan_signal(ops, cells, Signal::NewLine);
     plan_notes(
         ops,

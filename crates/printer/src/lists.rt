@@ -1,6 +1,6 @@
 // What stands around the children of a list, and what opens and closes one.
-use children::gap::AT_CHILD;
 use children::gap::Span;
+use children::gap::at_child;
 use children::newlines::blank_line;
 use children::survey::Outline;
 use children::survey::nothing_waits;
@@ -149,7 +149,7 @@ pub fn plan_behind(
     requires { ⌜ Lies (now image) (now index) g ⌝ }
     ensures { λ _. ⌜ PlansIn ops cells image index (followingIn image index style t g) ⌝ }
 {
-    let more = g.end == AT_CHILD;
+    let more = at_child(g);
     on_line(ops, cells, style, t, more);
     plan_inline(ops, cells, image, index, g, CommentLocation::ItemInline);
     behind_it(ops, cells, style, t, more);
@@ -354,13 +354,14 @@ pub fn is_empty(image: &[u8], index: &[u32], o: Outline) -> bool
 pub fn unasked(s: Span) -> Span
     ensures { λ r. ⌜ r ≡ record { from = s .from; cut = s .cut; to = s .to; had = false; end = s .end; tally = s .tally } ⌝ }
 {
+    let end = s.end;
     let tally = s.tally;
     Span {
         from: s.from,
         cut: s.cut,
         to: s.to,
         had: false,
-        end: s.end,
+        end,
         tally,
     }
 }

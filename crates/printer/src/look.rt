@@ -8,6 +8,7 @@ use super::rows::marks_of;
 use super::rows::place_wanted;
 use children::between::Bounds;
 use children::between::bounds_between;
+use numbers::Element;
 use tree::Found;
 use tree::access::end_at;
 use tree::access::first_from;
@@ -34,32 +35,32 @@ ghost use Rattle.printer.specs.Reads.{partFor};
 ghost use Rattle.printer.specs.Contracts.{specStartIn, partsIn, firstIn, BoundedIn};
 
 // The place behind element i, where its children begin.
-pub fn first_in(image: &[u8], index: &[u32], i: u32) -> u32
-    requires { ⌜ At (now image) (now index) i ⌝ }
-    ensures { λ r. ⌜ r ≡ i + 1 ⌝ }
+pub fn first_in(image: &[u8], index: &[u32], i: Element) -> u32
+    requires { ⌜ At (now image) (now index) (i .0) ⌝ }
+    ensures { λ r. ⌜ r ≡ i .0 + 1 ⌝ }
 {
-    i + 1
+    i.0 + 1
 }
 
 // The first part of a class.
-pub fn first_of(image: &[u8], index: &[u32], i: u32, c: Class) -> Found
-    requires { ⌜ At (now image) (now index) i ⌝ }
-    ensures { λ r. ⌜ found r ≡ numberOf (first c (partsIn image index i)) ⌝ }
+pub fn first_of(image: &[u8], index: &[u32], i: Element, c: Class) -> Found
+    requires { ⌜ At (now image) (now index) (i .0) ⌝ }
+    ensures { λ r. ⌜ found r ≡ numberOf (first c (partsIn image index (i .0))) ⌝ }
 {
     let a = first_in(image, index, i);
-    let b = end_at(index, i);
+    let b = end_at(index, i.0);
     first_from(image, index, kinds_of(c), a, b)
 }
 
 // The marks of the parts of element i, or all marks, which are not sure, where these are not asked for.
-pub fn marks_in(image: &[u8], index: &[u32], i: u32, asked: bool) -> u64
-    requires { ⌜ At (now image) (now index) i ⌝ }
-    ensures { λ r. ⌜ Marks (partsIn image index i) asked r ⌝ }
+pub fn marks_in(image: &[u8], index: &[u32], i: Element, asked: bool) -> u64
+    requires { ⌜ At (now image) (now index) (i .0) ⌝ }
+    ensures { λ r. ⌜ Marks (partsIn image index (i .0)) asked r ⌝ }
 {
     if !asked {
         return ALL_MARKS;
     }
-    let end = end_at(index, i);
+    let end = end_at(index, i.0);
     let mut m = 0;
     let mut j = first_in(image, index, i);
     while j < end {
@@ -78,22 +79,22 @@ fn is_marked(m: u64, w: u32) -> bool
 }
 
 // The wanted part with a number, which may be another than the first of its kinds.
-fn counted_part(image: &[u8], index: &[u32], i: u32, w: u32) -> Found
-    requires { ⌜ At (now image) (now index) i ⌝ }
+fn counted_part(image: &[u8], index: &[u32], i: Element, w: u32) -> Found
+    requires { ⌜ At (now image) (now index) (i .0) ⌝ }
     requires { ⌜ w < wantCount ⌝ }
-    ensures { λ r. ⌜ found r ≡ numberOf (nth (wantAt w .class) (wantAt w .place) (partsIn image index i)) ⌝ }
+    ensures { λ r. ⌜ found r ≡ numberOf (nth (wantAt w .class) (wantAt w .place) (partsIn image index (i .0))) ⌝ }
 {
     let a = first_in(image, index, i);
-    let b = end_at(index, i);
+    let b = end_at(index, i.0);
     nth_of(image, index, kinds_wanted(w), place_wanted(w), a, b)
 }
 
 // The wanted part with a number, of a node whose parts have the marks m.
-pub fn wanted_part(image: &[u8], index: &[u32], i: u32, m: u64, w: u32) -> Found
-    requires { ⌜ At (now image) (now index) i ⌝ }
-    requires { ⌜ Marks (partsOf (now image) (now index) i) false m ⌝ }
+pub fn wanted_part(image: &[u8], index: &[u32], i: Element, m: u64, w: u32) -> Found
+    requires { ⌜ At (now image) (now index) (i .0) ⌝ }
+    requires { ⌜ Marks (partsOf (now image) (now index) (i .0)) false m ⌝ }
     requires { ⌜ w < wantCount ⌝ }
-    ensures { λ r. ⌜ found r ≡ numberOf (nth (wantAt w .class) (wantAt w .place) (partsIn image index i)) ⌝ }
+    ensures { λ r. ⌜ found r ≡ numberOf (nth (wantAt w .class) (wantAt w .place) (partsIn image index (i .0))) ⌝ }
 {
     if !is_marked(m, w) {
         return Found::Nothing;
@@ -102,17 +103,17 @@ pub fn wanted_part(image: &[u8], index: &[u32], i: u32, m: u64, w: u32) -> Found
         return counted_part(image, index, i, w);
     }
     let a = first_in(image, index, i);
-    let b = end_at(index, i);
+    let b = end_at(index, i.0);
     first_from(image, index, kinds_wanted(w), a, b)
 }
 
 // Whether the wanted part with a number is there, of a node whose parts have the marks m; number 0 is none. The first of its kinds is
 // not looked for.
-fn is_there(image: &[u8], index: &[u32], i: u32, m: u64, w: u32) -> bool
-    requires { ⌜ At (now image) (now index) i ⌝ }
-    requires { ⌜ Marks (partsOf (now image) (now index) i) true m ⌝ }
+fn is_there(image: &[u8], index: &[u32], i: Element, m: u64, w: u32) -> bool
+    requires { ⌜ At (now image) (now index) (i .0) ⌝ }
+    requires { ⌜ Marks (partsOf (now image) (now index) (i .0)) true m ⌝ }
     requires { ⌜ w < wantCount ⌝ }
-    ensures { λ r. ⌜ r ≡ any (Layout.found (partsIn image index i)) (wanted w) ⌝ }
+    ensures { λ r. ⌜ r ≡ any (Layout.found (partsIn image index (i .0))) (wanted w) ⌝ }
 {
     if w == 0 {
         return false;
@@ -124,14 +125,14 @@ fn is_there(image: &[u8], index: &[u32], i: u32, m: u64, w: u32) -> bool
 }
 
 // Whether a piece is printed.
-pub fn is_asked(image: &[u8], index: &[u32], i: u32, m: u64, x: Entry) -> bool
-    requires { ⌜ At (now image) (now index) i ⌝ }
-    requires { ⌜ Marks (partsOf (now image) (now index) i) (x .tested) m ⌝ }
+pub fn is_asked(image: &[u8], index: &[u32], i: Element, m: u64, x: Entry) -> bool
+    requires { ⌜ At (now image) (now index) (i .0) ⌝ }
+    requires { ⌜ Marks (partsOf (now image) (now index) (i .0)) (x .tested) m ⌝ }
     requires { ⌜ x .tested ≡ tested (pieceOf x) ⌝ }
     requires { ⌜ x .given < wantCount ⌝ }
     requires { ⌜ x .other < wantCount ⌝ }
     requires { ⌜ x .unless < wantCount ⌝ }
-    ensures { λ r. ⌜ r ≡ asked (partsIn image index i) (pieceOf x) ⌝ }
+    ensures { λ r. ⌜ r ≡ asked (partsIn image index (i .0)) (pieceOf x) ⌝ }
 {
     if !x.tested {
         return true;
@@ -144,11 +145,11 @@ pub fn is_asked(image: &[u8], index: &[u32], i: u32, m: u64, x: Entry) -> bool
 }
 
 // The part that a piece prints.
-pub fn part_of(image: &[u8], index: &[u32], i: u32, m: u64, x: Entry) -> Found
-    requires { ⌜ At (now image) (now index) i ⌝ }
-    requires { ⌜ Marks (partsOf (now image) (now index) i) false m ⌝ }
+pub fn part_of(image: &[u8], index: &[u32], i: Element, m: u64, x: Entry) -> Found
+    requires { ⌜ At (now image) (now index) (i .0) ⌝ }
+    requires { ⌜ Marks (partsOf (now image) (now index) (i .0)) false m ⌝ }
     requires { ⌜ x .want < wantCount ⌝ }
-    ensures { λ r. ⌜ found r ≡ numberOf (partFor x (partsIn image index i)) ⌝ }
+    ensures { λ r. ⌜ found r ≡ numberOf (partFor x (partsIn image index (i .0))) ⌝ }
 {
     if x.what == PART {
         return wanted_part(image, index, i, m, x.want);
@@ -157,28 +158,28 @@ pub fn part_of(image: &[u8], index: &[u32], i: u32, m: u64, x: Entry) -> Found
         return Found::Nothing;
     }
     let a = first_in(image, index, i);
-    let b = end_at(index, i);
+    let b = end_at(index, i.0);
     plus_of(image, index, a, b)
 }
 
 // The reading between the first tokens of two classes.
-pub fn enclosed(image: &[u8], index: &[u32], i: u32, opening: Class, closing: Class) -> Bounds
-    requires { ⌜ At (now image) (now index) i ⌝ }
-    ensures { λ r. ⌜ BoundedIn image index i (firstIn image index i opening) (firstIn image index i closing) r ⌝ }
+pub fn enclosed(image: &[u8], index: &[u32], i: Element, opening: Class, closing: Class) -> Bounds
+    requires { ⌜ At (now image) (now index) (i .0) ⌝ }
+    ensures { λ r. ⌜ BoundedIn image index (i .0) (firstIn image index (i .0) opening) (firstIn image index (i .0) closing) r ⌝ }
 {
     let start = first_of(image, index, i, opening);
     let end = first_of(image, index, i, closing);
     let a = first_in(image, index, i);
-    bounds_between(image, index, start, end, a, end_at(index, i))
+    bounds_between(image, index, start, end, a, end_at(index, i.0))
 }
 
 // The second reading of an object comprehension, of its CompSpecs.
-pub fn spec_bounds(image: &[u8], index: &[u32], i: u32) -> Bounds
-    requires { ⌜ At (now image) (now index) i ⌝ }
-    ensures { λ r. ⌜ BoundedIn image index i (specStartIn image index i) (firstIn image index i RBrace) r ⌝ }
+pub fn spec_bounds(image: &[u8], index: &[u32], i: Element) -> Bounds
+    requires { ⌜ At (now image) (now index) (i .0) ⌝ }
+    ensures { λ r. ⌜ BoundedIn image index (i .0) (specStartIn image index (i .0)) (firstIn image index (i .0) RBrace) r ⌝ }
 {
     let a = first_in(image, index, i);
-    let b = end_at(index, i);
+    let b = end_at(index, i.0);
     let last = last_of(image, index, kinds_of(Class::MemberComp), a, b);
     let start = or_else(last, first_of(image, index, i, Class::LBrace));
     let end = first_of(image, index, i, Class::RBrace);

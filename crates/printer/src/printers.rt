@@ -37,12 +37,12 @@ use super::rows::kinds_wanted;
 use super::rows::row_of;
 use children::between::Bounds;
 use children::between::bounds_between;
-use children::gap::AT_CHILD;
-use children::gap::AT_END;
 use children::gap::Span;
+use children::gap::at_child;
 use children::gap::gap;
 use children::gap::lead;
 use children::survey::Outline;
+use children::survey::is_stopped;
 use children::survey::survey;
 use children::survey::survey_after;
 use comments::CommentLocation;
@@ -89,11 +89,11 @@ ghost use Rattle.printer.specs.Reads.{numberOr, Has, Within, readAt, Who
 ghost use Rattle.printer.specs.Contracts.{trailingIn, partsIn, underIn, readIn, partIn, pieceIn, eachIn, childrenIn, walkedIn, aroundIn, listIn};
 
 // Element i.
-fn node(ops: &mut [u32], cells: &mut [u32; 8], image: &[u8], index: &[u32], i: u32)
-    requires { ⌜ At (now image) (now index) i ⌝ }
-    ensures { λ _. ⌜ PlansIn ops cells image index (printOf (now (image .entry)) i) ⌝ }
+fn node(ops: &mut [u32], cells: &mut [u32; 8], image: &[u8], index: &[u32], i: Element)
+    requires { ⌜ At (now image) (now index) (i .0) ⌝ }
+    ensures { λ _. ⌜ PlansIn ops cells image index (printOf (now (image .entry)) (i .0)) ⌝ }
 {
-    let k = kind_at(index, i);
+    let k = kind_at(index, i.0);
     if k >= kind::FIRST_TOKEN {
         plan_token(ops, cells, i);
         return;
@@ -111,12 +111,12 @@ fn node(ops: &mut [u32], cells: &mut [u32; 8], image: &[u8], index: &[u32], i: u
 }
 
 // A node with a fixed layout: the pieces of its row.
-fn row(ops: &mut [u32], cells: &mut [u32; 8], image: &[u8], index: &[u32], i: u32)
-    requires { ⌜ At (now image) (now index) i ⌝ }
-    requires { ⌜ kindAt (now index) i < 64 ⌝ }
-    ensures { λ _. ⌜ PlansIn ops cells image index (row (underIn image i) (partsIn image index i) (layout (kindAt (now (index .entry)) i))) ⌝ }
+fn row(ops: &mut [u32], cells: &mut [u32; 8], image: &[u8], index: &[u32], i: Element)
+    requires { ⌜ At (now image) (now index) (i .0) ⌝ }
+    requires { ⌜ kindAt (now index) (i .0) < 64 ⌝ }
+    ensures { λ _. ⌜ PlansIn ops cells image index (row (underIn image (i .0)) (partsIn image index (i .0)) (layout (kindAt (now (index .entry)) (i .0)))) ⌝ }
 {
-    let e = row_of(kind_at(index, i));
+    let e = row_of(kind_at(index, i.0));
     let m = marks_in(image, index, i, e.marks == 1);
     let end = e.end;
     let mut n = e.start;
@@ -127,11 +127,19 @@ fn row(ops: &mut [u32], cells: &mut [u32; 8], image: &[u8], index: &[u32], i: u3
 }
 
 // A piece of the row of element i, whose parts have the marks m.
-fn piece(ops: &mut [u32], cells: &mut [u32; 8], image: &[u8], index: &[u32], i: u32, m: u64, n: u32)
-    requires { ⌜ At (now image) (now index) i ⌝ }
-    requires { ⌜ Marks (partsOf (now image) (now index) i) (tested (pieceAt n)) m ⌝ }
+fn piece(
+    ops: &mut [u32],
+    cells: &mut [u32; 8],
+    image: &[u8],
+    index: &[u32],
+    i: Element,
+    m: u64,
+    n: u32,
+)
+    requires { ⌜ At (now image) (now index) (i .0) ⌝ }
+    requires { ⌜ Marks (partsOf (now image) (now index) (i .0)) (tested (pieceAt n)) m ⌝ }
     requires { ⌜ n < pieceCount ⌝ }
-    ensures { λ _. ⌜ PlansIn ops cells image index (pieceIn image index i (pieceAt n)) ⌝ }
+    ensures { λ _. ⌜ PlansIn ops cells image index (pieceIn image index (i .0) (pieceAt n)) ⌝ }
 {
     let x = entry_at(n);
     if !is_asked(image, index, i, m, x) {
@@ -155,44 +163,52 @@ pub fn part(
     cells: &mut [u32; 8],
     image: &[u8],
     index: &[u32],
-    i: u32,
+    i: Element,
     f: Found,
     missing: u32,
 )
-    requires { ⌜ At (now image) (now index) i ⌝ }
-    requires { ⌜ Has (partsOf (now image) (now index) i) (found f) ⌝ }
+    requires { ⌜ At (now image) (now index) (i .0) ⌝ }
+    requires { ⌜ Has (partsOf (now image) (now index) (i .0)) (found f) ⌝ }
     requires { ⌜ missing < wordCount ⌝ }
-    ensures { λ _. ⌜ PlansIn ops cells image index (numberOr (underIn image i) (wordOrNone missing) (found f)) ⌝ }
+    ensures { λ _. ⌜ PlansIn ops cells image index (numberOr (underIn image (i .0)) (wordOrNone missing) (found f)) ⌝ }
 {
     match f {
-        Found::At(j) => node(ops, cells, image, index, j.0),
+        Found::At(j) => node(ops, cells, image, index, j),
         Found::Nothing => plan_optional(ops, cells, missing),
     }
 }
 
 // All parts of a class of element i.
-fn each(ops: &mut [u32], cells: &mut [u32; 8], image: &[u8], index: &[u32], i: u32, x: Entry)
-    requires { ⌜ At (now image) (now index) i ⌝ }
+fn each(ops: &mut [u32], cells: &mut [u32; 8], image: &[u8], index: &[u32], i: Element, x: Entry)
+    requires { ⌜ At (now image) (now index) (i .0) ⌝ }
     requires { ⌜ x .want < wantCount ⌝ }
     requires { ⌜ x .word < wordCount ⌝ }
-    ensures { λ _. ⌜ PlansIn ops cells image index (eachIn image i x (partsIn image index i)) ⌝ }
+    ensures { λ _. ⌜ PlansIn ops cells image index (eachIn image (i .0) x (partsIn image index (i .0))) ⌝ }
 {
-    let end = end_at(index, i);
+    let end = end_at(index, i.0);
     let mut j = first_in(image, index, i);
     while j < end {
-        one(ops, cells, image, index, i, j, x);
+        one(ops, cells, image, index, i, Element(j), x);
         j = end_at(index, j);
     }
 }
 
 // Element j under element i, if it is of the class.
-fn one(ops: &mut [u32], cells: &mut [u32; 8], image: &[u8], index: &[u32], i: u32, j: u32, x: Entry)
-    requires { ⌜ Kid (now image) (now index) i j ⌝ }
+fn one(
+    ops: &mut [u32],
+    cells: &mut [u32; 8],
+    image: &[u8],
+    index: &[u32],
+    i: Element,
+    j: Element,
+    x: Entry,
+)
+    requires { ⌜ Kid (now image) (now index) (i .0) (j .0) ⌝ }
     requires { ⌜ x .want < wantCount ⌝ }
     requires { ⌜ x .word < wordCount ⌝ }
-    ensures { λ _. ⌜ PlansIn ops cells image index (eachIn image i x (partIn image index j ∷ [])) ⌝ }
+    ensures { λ _. ⌜ PlansIn ops cells image index (eachIn image (i .0) x (partIn image index (j .0) ∷ [])) ⌝ }
 {
-    if !is(kinds_wanted(x.want), kind_at(index, j)) {
+    if !is(kinds_wanted(x.want), kind_at(index, j.0)) {
         return;
     }
     plan_optional(ops, cells, x.word);
@@ -201,13 +217,13 @@ fn one(ops: &mut [u32], cells: &mut [u32; 8], image: &[u8], index: &[u32], i: u3
 }
 
 // An expression: statements, the expression at its base, suffixes.
-fn expr(ops: &mut [u32], cells: &mut [u32; 8], image: &[u8], index: &[u32], i: u32)
-    requires { ⌜ At (now image) (now index) i ⌝ }
-    ensures { λ _. ⌜ PlansIn ops cells image index (expression (underIn image i) (partsIn image index i) (first ExprBase (partsIn image index i))) ⌝ }
+fn expr(ops: &mut [u32], cells: &mut [u32; 8], image: &[u8], index: &[u32], i: Element)
+    requires { ⌜ At (now image) (now index) (i .0) ⌝ }
+    ensures { λ _. ⌜ PlansIn ops cells image index (expression (underIn image (i .0)) (partsIn image index (i .0)) (first ExprBase (partsIn image index (i .0)))) ⌝ }
 {
     let base = first_of(image, index, i, Class::ExprBase);
     let a = first_in(image, index, i);
-    let b = end_at(index, i);
+    let b = end_at(index, i.0);
     let y = bounds_between(image, index, Found::Nothing, base, a, b);
     let z = bounds_between(image, index, base, Found::Nothing, a, b);
     values(ops, cells, image, index, i, Class::Stmt, y);
@@ -221,25 +237,25 @@ fn values(
     cells: &mut [u32; 8],
     image: &[u8],
     index: &[u32],
-    i: u32,
+    i: Element,
     c: Class,
     z: Bounds,
 )
-    requires { ⌜ Within (now image) (now index) i z ⌝ }
-    ensures { λ _. ⌜ PlansIn ops cells image index (valuesOf (underIn image i) (readIn image index c z none)) ⌝ }
+    requires { ⌜ Within (now image) (now index) (i .0) z ⌝ }
+    ensures { λ _. ⌜ PlansIn ops cells image index (valuesOf (underIn image (i .0)) (readIn image index c z none)) ⌝ }
 {
     if z.to <= z.from {
         return;
     }
     let w = kinds_of(c);
     let o = survey(image, index, w, z.loose, z.from, z.to);
-    if o.last.end != AT_END {
+    if is_stopped(o) {
         stop_at(cells, Element(o.last.to));
         return;
     }
     let mut s = gap(image, index, w, z.loose, false, z.from, z.to);
-    while s.end == AT_CHILD {
-        node(ops, cells, image, index, s.to);
+    while at_child(s) {
+        node(ops, cells, image, index, Element(s.to));
         s = gap(image, index, w, z.loose, true, end_at(index, s.to), z.to);
     }
 }
@@ -250,7 +266,7 @@ fn kids(
     cells: &mut [u32; 8],
     image: &[u8],
     index: &[u32],
-    i: u32,
+    i: Element,
     c: Class,
     loose: bool,
     first: Span,
@@ -258,14 +274,14 @@ fn kids(
     style: Style,
     t: Condition,
 )
-    requires { ⌜ Walks (now image) (now index) i (kinds c) loose b first ⌝ }
-    ensures { λ _. ⌜ PlansIn ops cells image index (walkedIn image index i style t c loose b first) ⌝ }
+    requires { ⌜ Walks (now image) (now index) (i .0) (kinds c) loose b first ⌝ }
+    ensures { λ _. ⌜ PlansIn ops cells image index (walkedIn image index (i .0) style t c loose b first) ⌝ }
 {
     let w = kinds_of(c);
     let mut s = first;
-    while s.end == AT_CHILD {
+    while at_child(s) {
         let g = gap(image, index, w, loose, true, end_at(index, s.to), b);
-        child(ops, cells, image, index, i, s, s.to, g, style, t);
+        child(ops, cells, image, index, i, s, Element(s.to), g, style, t);
         s = g;
     }
 }
@@ -276,15 +292,15 @@ fn items(
     cells: &mut [u32; 8],
     image: &[u8],
     index: &[u32],
-    i: u32,
+    i: Element,
     c: Class,
     z: Bounds,
     style: Style,
     t: Condition,
 )
-    requires { ⌜ Within (now image) (now index) i z ⌝ }
+    requires { ⌜ Within (now image) (now index) (i .0) z ⌝ }
     requires { ⌜ Whole (readAt (now image) (now index) c z none) ⌝ }
-    ensures { λ _. ⌜ PlansIn ops cells image index (childrenIn image i style t (kidsIn (readIn image index c z none))) ⌝ }
+    ensures { λ _. ⌜ PlansIn ops cells image index (childrenIn image (i .0) style t (kidsIn (readIn image index c z none))) ⌝ }
 {
     let w = kinds_of(c);
     let s = gap(image, index, w, z.loose, false, z.from, z.to);
@@ -297,17 +313,17 @@ fn child(
     cells: &mut [u32; 8],
     image: &[u8],
     index: &[u32],
-    i: u32,
+    i: Element,
     s: Span,
-    j: u32,
+    j: Element,
     g: Span,
     style: Style,
     t: Condition,
 )
-    requires { ⌜ Kid (now image) (now index) i j ⌝ }
+    requires { ⌜ Kid (now image) (now index) (i .0) (j .0) ⌝ }
     requires { ⌜ Lies (now image) (now index) s ⌝ }
     requires { ⌜ Lies (now image) (now index) g ⌝ }
-    ensures { λ _. ⌜ PlansIn ops cells image index (aroundIn image index i style t s j g) ⌝ }
+    ensures { λ _. ⌜ PlansIn ops cells image index (aroundIn image index (i .0) style t s (j .0) g) ⌝ }
 {
     plan_above(ops, cells, image, index, s);
     node(ops, cells, image, index, j);
@@ -315,14 +331,14 @@ fn child(
 }
 
 // An array, or the members of an object.
-fn list(ops: &mut [u32], cells: &mut [u32; 8], image: &[u8], index: &[u32], i: u32, l: ListKind)
-    requires { ⌜ At (now image) (now index) i ⌝ }
-    ensures { λ _. ⌜ PlansIn ops cells image index (listIn image index i l) ⌝ }
+fn list(ops: &mut [u32], cells: &mut [u32; 8], image: &[u8], index: &[u32], i: Element, l: ListKind)
+    requires { ⌜ At (now image) (now index) (i .0) ⌝ }
+    ensures { λ _. ⌜ PlansIn ops cells image index (listIn image index (i .0) l) ⌝ }
 {
     let z = enclosed(image, index, i, opener(l), closer(l));
     let c = child_class(l);
     let o = survey(image, index, kinds_of(c), z.loose, z.from, z.to);
-    if o.last.end != AT_END {
+    if is_stopped(o) {
         stop_at(cells, Element(o.last.to));
         return;
     }
@@ -339,13 +355,13 @@ fn list(ops: &mut [u32], cells: &mut [u32; 8], image: &[u8], index: &[u32], i: u
 }
 
 // The arguments of a call.
-fn args(ops: &mut [u32], cells: &mut [u32; 8], image: &[u8], index: &[u32], i: u32)
-    requires { ⌜ At (now image) (now index) i ⌝ }
-    ensures { λ _. ⌜ PlansIn ops cells image index (arguments (underIn image i) (enclosed Arg LParen RParen (partsIn image index i))) ⌝ }
+fn args(ops: &mut [u32], cells: &mut [u32; 8], image: &[u8], index: &[u32], i: Element)
+    requires { ⌜ At (now image) (now index) (i .0) ⌝ }
+    ensures { λ _. ⌜ PlansIn ops cells image index (arguments (underIn image (i .0)) (enclosed Arg LParen RParen (partsIn image index (i .0)))) ⌝ }
 {
     let z = enclosed(image, index, i, Class::LParen, Class::RParen);
     let o = survey(image, index, kinds_of(Class::Arg), z.loose, z.from, z.to);
-    if o.last.end != AT_END {
+    if is_stopped(o) {
         stop_at(cells, Element(o.last.to));
         return;
     }
@@ -367,20 +383,20 @@ fn args(ops: &mut [u32], cells: &mut [u32; 8], image: &[u8], index: &[u32], i: u
 }
 
 // An object comprehension: the reading of its members.
-fn comp(ops: &mut [u32], cells: &mut [u32; 8], image: &[u8], index: &[u32], i: u32)
-    requires { ⌜ At (now image) (now index) i ⌝ }
-    ensures { λ _. ⌜ PlansIn ops cells image index (comprehension (underIn image i) i (partsIn image index i) (first CompSpec (partsIn image index i))) ⌝ }
+fn comp(ops: &mut [u32], cells: &mut [u32; 8], image: &[u8], index: &[u32], i: Element)
+    requires { ⌜ At (now image) (now index) (i .0) ⌝ }
+    ensures { λ _. ⌜ PlansIn ops cells image index (comprehension (underIn image (i .0)) (i .0) (partsIn image index (i .0)) (first CompSpec (partsIn image index (i .0)))) ⌝ }
 {
     let spec = first_of(image, index, i, Class::CompSpec);
     if is_nothing(spec) {
-        stop_at(cells, Element(i));
+        stop_at(cells, i);
         return;
     }
     let brace = first_of(image, index, i, Class::LBrace);
     let a = first_in(image, index, i);
-    let y = bounds_between(image, index, brace, spec, a, end_at(index, i));
+    let y = bounds_between(image, index, brace, spec, a, end_at(index, i.0));
     let m = survey(image, index, kinds_of(Class::Member), y.loose, y.from, y.to);
-    if m.last.end != AT_END {
+    if is_stopped(m) {
         stop_at(cells, Element(m.last.to));
         return;
     }
@@ -393,19 +409,19 @@ fn body(
     cells: &mut [u32; 8],
     image: &[u8],
     index: &[u32],
-    i: u32,
+    i: Element,
     y: Bounds,
     m: Outline,
 )
-    requires { ⌜ Within (now image) (now index) i y ⌝ }
+    requires { ⌜ Within (now image) (now index) (i .0) y ⌝ }
     requires { ⌜ Lies (now image) (now index) (m .last) ⌝ }
     requires { ⌜ Outlined (now image) (now index) (readAt (now image) (now index) Member y none) m ⌝ }
-    ensures { λ _. ⌜ PlansIn ops cells image index (compOf (underIn image i) (partsIn image index i) (readIn image index Member y none)) ⌝ }
+    ensures { λ _. ⌜ PlansIn ops cells image index (compOf (underIn image (i .0)) (partsIn image index (i .0)) (readIn image index Member y none)) ⌝ }
 {
     let z = spec_bounds(image, index, i);
     let w = kinds_of(Class::CompSpec);
     let o = survey_after(image, index, w, z.loose, m.last, z.from, z.to);
-    if o.last.end != AT_END {
+    if is_stopped(o) {
         stop_at(cells, Element(o.last.to));
         return;
     }
@@ -435,19 +451,19 @@ fn specs(
     cells: &mut [u32; 8],
     image: &[u8],
     index: &[u32],
-    i: u32,
+    i: Element,
     z: Bounds,
     trailing: Span,
     t: Condition,
 )
-    requires { ⌜ Within (now image) (now index) i z ⌝ }
+    requires { ⌜ Within (now image) (now index) (i .0) z ⌝ }
     requires { ⌜ Lies (now image) (now index) trailing ⌝ }
     requires { ⌜ Whole (readAt (now image) (now index) CompSpec z (some (gapAt (now image) (now index) trailing .waiting))) ⌝ }
-    ensures { λ _. ⌜ PlansIn ops cells image index (childrenIn image i Specs t (kidsIn (readIn image index CompSpec z (trailingIn image index trailing)))) ⌝ }
+    ensures { λ _. ⌜ PlansIn ops cells image index (childrenIn image (i .0) Specs t (kidsIn (readIn image index CompSpec z (trailingIn image index trailing)))) ⌝ }
 {
     let w = kinds_of(Class::CompSpec);
     let s = lead(image, index, w, z.loose, z.from, z.to);
-    if s.end != AT_CHILD {
+    if !at_child(s) {
         return;
     }
     let g = gap(image, index, w, z.loose, true, end_at(index, s.to), z.to);
@@ -459,7 +475,7 @@ fn specs(
         index,
         i,
         before,
-        s.to,
+        Element(s.to),
         g,
         Style::Specs,
         t,
@@ -480,9 +496,9 @@ fn specs(
 }
 
 // A local statement.
-fn local(ops: &mut [u32], cells: &mut [u32; 8], image: &[u8], index: &[u32], i: u32)
-    requires { ⌜ At (now image) (now index) i ⌝ }
-    ensures { λ _. ⌜ PlansIn ops cells image index (localOf (underIn image i) (enclosed Bind Local Semi (partsIn image index i)) ⨟ lit ";" ⨟ say newline) ⌝ }
+fn local(ops: &mut [u32], cells: &mut [u32; 8], image: &[u8], index: &[u32], i: Element)
+    requires { ⌜ At (now image) (now index) (i .0) ⌝ }
+    ensures { λ _. ⌜ PlansIn ops cells image index (localOf (underIn image (i .0)) (enclosed Bind Local Semi (partsIn image index (i .0))) ⨟ lit ";" ⨟ say newline) ⌝ }
 {
     binds(ops, cells, image, index, i);
     plan_word(ops, cells, words::SEMICOLON);
@@ -490,13 +506,13 @@ fn local(ops: &mut [u32], cells: &mut [u32; 8], image: &[u8], index: &[u32], i: 
 }
 
 // The binds of a local statement.
-fn binds(ops: &mut [u32], cells: &mut [u32; 8], image: &[u8], index: &[u32], i: u32)
-    requires { ⌜ At (now image) (now index) i ⌝ }
-    ensures { λ _. ⌜ PlansIn ops cells image index (localOf (underIn image i) (enclosed Bind Local Semi (partsIn image index i))) ⌝ }
+fn binds(ops: &mut [u32], cells: &mut [u32; 8], image: &[u8], index: &[u32], i: Element)
+    requires { ⌜ At (now image) (now index) (i .0) ⌝ }
+    ensures { λ _. ⌜ PlansIn ops cells image index (localOf (underIn image (i .0)) (enclosed Bind Local Semi (partsIn image index (i .0)))) ⌝ }
 {
     let z = enclosed(image, index, i, Class::Local, Class::Semi);
     let o = survey(image, index, kinds_of(Class::Bind), z.loose, z.from, z.to);
-    if o.last.end != AT_END {
+    if is_stopped(o) {
         stop_at(cells, Element(o.last.to));
         return;
     }
@@ -520,15 +536,15 @@ fn binds(ops: &mut [u32], cells: &mut [u32; 8], image: &[u8], index: &[u32], i: 
 }
 
 // The one bind of a local statement.
-fn lone(ops: &mut [u32], cells: &mut [u32; 8], image: &[u8], index: &[u32], i: u32, z: Bounds)
-    requires { ⌜ Within (now image) (now index) i z ⌝ }
+fn lone(ops: &mut [u32], cells: &mut [u32; 8], image: &[u8], index: &[u32], i: Element, z: Bounds)
+    requires { ⌜ Within (now image) (now index) (i .0) z ⌝ }
     requires { ⌜ Whole (readAt (now image) (now index) Bind z none) ⌝ }
     requires { ⌜ length (kidsIn (readAt (now image) (now index) Bind z none)) ≡ 1 ⌝ }
-    ensures { λ _. ⌜ PlansIn ops cells image index (localOf (underIn image i) (readIn image index Bind z none)) ⌝ }
+    ensures { λ _. ⌜ PlansIn ops cells image index (localOf (underIn image (i .0)) (readIn image index Bind z none)) ⌝ }
 {
     let w = kinds_of(Class::Bind);
     let s = gap(image, index, w, z.loose, false, z.from, z.to);
     plan_waiting(ops, cells, image, index, s, CommentLocation::AboveItem);
     plan_word(ops, cells, words::LOCAL_SPACE);
-    node(ops, cells, image, index, s.to);
+    node(ops, cells, image, index, Element(s.to));
 }

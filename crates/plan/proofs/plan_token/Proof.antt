@@ -17,6 +17,7 @@ pub plan-token-spec : {M : Type 1} → statement M
 plan-token-spec =
     tie.close
     (tie.spec
+    (λ c. search needs)  -- cast-add-numbered
     (λ c κs. omega arith)  -- add-numbered-requires
     (λ c. returns c blank .sameOps)  -- same-length
     returns  -- returns

@@ -22,6 +22,7 @@ gap-spec =
     (λ c. search spanning-none)  -- loop-holds
     (λ c κs. search needs)  -- space-of-requires
     (λ c κs. search needs)  -- turn-of-requires
+    (λ c κs. search needs)  -- end-by-requires
     (λ c κs. search needs)  -- span-of-requires
     (λ c. search spanning-stop)  -- returns
     (λ c κs. search needs)  -- end-at-requires

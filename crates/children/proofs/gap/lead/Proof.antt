@@ -22,6 +22,7 @@ lead-spec =
     (λ c. search leading-none)  -- loop-holds
     (λ c κs. search needs)  -- space-of-requires
     (λ c κs. search needs)  -- turn-of-requires
+    (λ c κs. search needs)  -- end-by-requires
     (λ c κs. search needs)  -- span-of-requires
     (λ c. search leading-stop)  -- returns
     (λ c κs. search needs)  -- kind-at-requires

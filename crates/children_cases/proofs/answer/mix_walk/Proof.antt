@@ -18,6 +18,7 @@ mix-walk-spec =
     Inv-loop
     μ-loop
     (λ c. search needs)  -- loop-holds
+    (λ c κs. search needs)  -- at-child-requires
     (λ c κs. search needs)  -- mix-requires
     (λ c κs. c .before .before .before .loop .inv .lies)  -- blank-line-requires
     (λ c κs. search needs)  -- bit-requires
@@ -27,9 +28,9 @@ mix-walk-spec =
     (λ c κs. search needs)  -- mix-requires-3
     (λ c κs. search needs)  -- mix-waiting-requires
     (λ c κs. search needs)  -- end-at-requires
-    (λ c κs. walk-region (c .before .before .before .before .before .before .before .before .before .before .before .loop .inv) (c .before .before .before .before .before .before .before .before .before .if1 .taken) (c .end-at .ensures))  -- gap-requires
+    (λ c κs. walk-region (c .before .before .before .before .before .before .before .before .before .before .before .loop .inv) (c .before .before .before .before .before .before .before .before .before .before .at-child .ensures) (c .before .before .before .before .before .before .before .before .before .if1 .taken) (c .end-at .ensures))  -- gap-requires
     (λ c κs. search needs)  -- mix-inline-requires
-    (λ c. walk-less (c .before .before .before .before .before .before .before .before .before .before .before .before .before .loop .inv) (c .before .before .before .before .before .before .before .before .before .before .before .if1 .taken) (c .before .before .end-at .ensures) (c .before .gap .ensures))  -- loop-less
+    (λ c. walk-less (c .before .before .before .before .before .before .before .before .before .before .before .before .before .loop .inv) (c .before .before .before .before .before .before .before .before .before .before .before .before .at-child .ensures) (c .before .before .before .before .before .before .before .before .before .before .before .if1 .taken) (c .before .before .end-at .ensures) (c .before .gap .ensures))  -- loop-less
     (λ c. walk-from (c .before .gap .ensures))  -- loop-again
     (λ c. search needs)  -- returns
     )

@@ -10,7 +10,7 @@ plain-spec =
     (λ c κs. search needs)  -- kinds-of-requires
     (λ c κs. search needs)  -- survey-requires
     (λ c κs. search needs)  -- mix-outline-requires
-    (λ c κs. search needs)  -- is-foreign-requires
+    (λ c κs. search needs)  -- is-stopped-requires
     (λ c. search needs)  -- returns
     (λ c κs. search needs)  -- gap-requires
     (λ c κs. walk-from (c .gap .ensures))  -- mix-walk-requires

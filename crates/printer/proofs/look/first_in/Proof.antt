@@ -8,6 +8,6 @@ pub first-in-spec : {M : Type 1} → statement M
 first-in-spec =
     tie.close
     (tie.spec
-    (λ c. omega (arith, at-next (c .pre)))  -- add-result
+    (λ c. omega (arith, at-next (c .before .pre)))  -- add-result
     (λ c. search needs)  -- returns
     )

@@ -5,10 +5,10 @@ use Rattle.printer.proofs.look.marks_in.Statement.{statement}
 use Rattle.printer.proofs.look.marks_in.Tie as tie
 
 abbrev Inv-loop : tie.InvT-loop
-Inv-loop image index i asked end m₀ j₀ m j = Marking image index i m j
+Inv-loop image index asked end m₀ j₀ m j = Marking image index j₀ end m j
 
 abbrev μ-loop : tie.MeasureT-loop
-μ-loop image index i asked end m₀ j₀ m j = end - j
+μ-loop image index asked end m₀ j₀ m j = end - j
 
 pub marks-in-spec : {M : Type 1} → statement M
 marks-in-spec =

@@ -17,7 +17,7 @@ returns t c =
     let o = i1 .before .before in
     let w = o .before in
     let z = w .before in
-    by (args-foreign _ (enclosed-reading _ _ _ _ (z .enclosed .ensures) ∙ survey-foreign _ (w .kinds-of .ensures) (o .survey .ensures) (i1 .if1 .taken))) (c .stop-at .ensures _ _)
+    by (args-foreign _ (enclosed-reading _ _ _ _ (z .enclosed .ensures) ∙ survey-foreign _ (w .kinds-of .ensures) (o .survey .ensures) (i1 .before .is-stopped .ensures) (i1 .if1 .taken))) (c .stop-at .ensures _ _)
 
 returns-2 : (t : ℕ) → lts.Need-returns-2 (args-claims t) (args-at t) args.Post
 returns-2 t c =
@@ -30,7 +30,7 @@ returns-2 t c =
     let o = i1 .before .before in
     let w = o .before in
     let z = w .before in
-    plans-args _ (enclosed-reading _ _ _ _ (z .enclosed .ensures)) (t1 .test-of .result) (survey-outlined _ (w .kinds-of .ensures) (o .survey .ensures) (i1 .if1 .left)) (n .next-run .ensures) (t1 .test-of .ensures) left-paren right-paren (c3 .open-list .ensures _) (c2 .items .ensures) (c1 .close-arguments .ensures)
+    plans-args _ (enclosed-reading _ _ _ _ (z .enclosed .ensures)) (t1 .test-of .result) (survey-outlined _ (w .kinds-of .ensures) (o .survey .ensures) (i1 .before .is-stopped .ensures) (i1 .if1 .left)) (n .next-run .ensures) (t1 .test-of .ensures) left-paren right-paren (c3 .open-list .ensures _) (c2 .items .ensures) (c1 .close-arguments .ensures)
 
 items-asked : (t : ℕ) → lts.Need-items-requires (args-claims t) (args-at t) args.Post
 items-asked t c κs =
@@ -39,10 +39,10 @@ items-asked t c κs =
     let w = o .before in
     let z = w .before in
     let s = z .before .before .before .before in
-    (omega (arith, s .pre .0), (within (s .pre .1) (z .enclosed .ensures), outlined-whole (survey-outlined _ (w .kinds-of .ensures) (o .survey .ensures) (i1 .if1 .left))))
+    (omega (arith, s .pre .0), (within (s .pre .1) (z .enclosed .ensures), outlined-whole (survey-outlined _ (w .kinds-of .ensures) (o .survey .ensures) (i1 .before .is-stopped .ensures) (i1 .if1 .left))))
 
 close-asked : (t : ℕ) → lts.Need-close-arguments-requires (args-claims t) (args-at t) args.Post
-close-asked t c κs = (right-paren .known, c .before .before .before .before .before .before .before .before .before .before .before .before .before .before .before .before .before .survey .ensures .lies)
+close-asked t c κs = (right-paren .known, c .before .before .before .before .before .before .before .before .before .before .before .before .before .before .before .before .before .survey .ensures .outlines .lies)
 
 pub args-closed : {M : Type 1} (t : ℕ) → lts.Closed (args-claims t) (args-at t) args.Post M
 args-closed t =
@@ -53,6 +53,7 @@ args-closed t =
     (λ c κs. search needs)  -- enclosed-requires
     (λ c κs. search needs)  -- kinds-of-requires
     (λ c κs. c .before .enclosed .ensures .region)  -- survey-requires
+    (λ c κs. search needs)  -- is-stopped-requires
     (λ c κs. search needs)  -- stop-at-requires
     (returns t)  -- returns
     (λ c κs. search needs)  -- next-run-requires

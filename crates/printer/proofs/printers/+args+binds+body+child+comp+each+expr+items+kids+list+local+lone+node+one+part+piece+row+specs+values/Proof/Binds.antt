@@ -19,7 +19,7 @@ returns t c =
     let o = i1 .before .before in
     let w = o .before in
     let z = w .before in
-    by (local-foreign _ (enclosed-reading _ _ _ _ (z .enclosed .ensures) ∙ survey-foreign _ (w .kinds-of .ensures) (o .survey .ensures) (i1 .if1 .taken))) (c .stop-at .ensures _ _)
+    by (local-foreign _ (enclosed-reading _ _ _ _ (z .enclosed .ensures) ∙ survey-foreign _ (w .kinds-of .ensures) (o .survey .ensures) (i1 .before .is-stopped .ensures) (i1 .if1 .taken))) (c .stop-at .ensures _ _)
 
 returns-2 : (t : ℕ) → lts.Need-returns-2 (binds-claims t) (binds-at t) binds.Post
 returns-2 t c =
@@ -36,7 +36,7 @@ returns-3 t c =
     let o = i1 .before .before in
     let w = o .before in
     let z = w .before in
-    plans-binds _ (enclosed-reading _ _ _ _ (z .enclosed .ensures)) Always (survey-outlined _ (w .kinds-of .ensures) (o .survey .ensures) (i1 .if1 .left)) (i2 .if2 .left) (c3 .open-binds .ensures _) (c2 .items .ensures) (c1 .close-binds .ensures)
+    plans-binds _ (enclosed-reading _ _ _ _ (z .enclosed .ensures)) Always (survey-outlined _ (w .kinds-of .ensures) (o .survey .ensures) (i1 .before .is-stopped .ensures) (i1 .if1 .left)) (i2 .if2 .left) (c3 .open-binds .ensures _) (c2 .items .ensures) (c1 .close-binds .ensures)
 
 lone-asked : (t : ℕ) → lts.Need-lone-requires (binds-claims t) (binds-at t) binds.Post
 lone-asked t c κs =
@@ -46,7 +46,7 @@ lone-asked t c κs =
     let w = o .before in
     let z = w .before in
     let s = z .before .before .before .before in
-    let x = (survey-outlined _ (w .kinds-of .ensures) (o .survey .ensures) (i1 .if1 .left)) in
+    let x = (survey-outlined _ (w .kinds-of .ensures) (o .survey .ensures) (i1 .before .is-stopped .ensures) (i1 .if1 .left)) in
     (omega (arith, s .pre .0), (within (s .pre .1) (z .enclosed .ensures), (outlined-whole x, outlined-count _ x (i2 .if2 .taken))))
 
 items-asked : (t : ℕ) → lts.Need-items-requires (binds-claims t) (binds-at t) binds.Post
@@ -56,7 +56,7 @@ items-asked t c κs =
     let w = o .before in
     let z = w .before in
     let s = z .before .before .before .before in
-    (omega (arith, s .pre .0), (within (s .pre .1) (z .enclosed .ensures), outlined-whole (survey-outlined _ (w .kinds-of .ensures) (o .survey .ensures) (i1 .if1 .left))))
+    (omega (arith, s .pre .0), (within (s .pre .1) (z .enclosed .ensures), outlined-whole (survey-outlined _ (w .kinds-of .ensures) (o .survey .ensures) (i1 .before .is-stopped .ensures) (i1 .if1 .left))))
 
 pub binds-closed : {M : Type 1} (t : ℕ) → lts.Closed (binds-claims t) (binds-at t) binds.Post M
 binds-closed t =
@@ -67,6 +67,7 @@ binds-closed t =
     (λ c κs. search needs)  -- enclosed-requires
     (λ c κs. search needs)  -- kinds-of-requires
     (λ c κs. c .before .enclosed .ensures .region)  -- survey-requires
+    (λ c κs. search needs)  -- is-stopped-requires
     (λ c κs. search needs)  -- stop-at-requires
     (returns t)  -- returns
     (lone-asked t)  -- lone-requires
@@ -74,6 +75,6 @@ binds-closed t =
     (returns-2 t)  -- returns-2
     (λ c κs. search needs)  -- open-binds-requires
     (items-asked t)  -- items-requires
-    (λ c κs. c .before .before .before .before .before .before .before .before .before .before .before .before .before .before .before .before .survey .ensures .lies)  -- close-binds-requires
+    (λ c κs. c .before .before .before .before .before .before .before .before .before .before .before .before .before .before .before .before .survey .ensures .outlines .lies)  -- close-binds-requires
     (λ c. returns-3 t c .sameOps)  -- same-length-2
     (returns-3 t)  -- returns-3

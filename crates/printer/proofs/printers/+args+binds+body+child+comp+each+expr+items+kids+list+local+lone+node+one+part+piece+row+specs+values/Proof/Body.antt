@@ -18,7 +18,7 @@ returns t c =
     let z = w .before in
     let s = z .before .before .before .before in
     let x = s .pre .1 .1 .1 in
-    by (specs-foreign _ _ x _ (spec-reading _ x (z .spec-bounds .ensures)) (after-foreign _ (w .kinds-of .ensures) (o .survey-after .ensures) (i1 .if1 .taken))) (c .stop-at .ensures _ _)
+    by (specs-foreign _ _ x _ (spec-reading _ x (z .spec-bounds .ensures)) (after-foreign _ (w .kinds-of .ensures) (o .survey-after .ensures) (i1 .before .is-stopped .ensures) (i1 .if1 .taken))) (c .stop-at .ensures _ _)
 
 returns-2 : (t : ℕ) → lts.Need-returns-2 (body-claims t) (body-at t) body.Post
 returns-2 t c =
@@ -35,7 +35,7 @@ returns-2 t c =
     let w = o .before in
     let z = w .before in
     let x = z .before .before .before .before .pre .1 .1 .1 in
-    plans-comp _ _ (t1 .test-of .result) x (spec-reading _ x (z .spec-bounds .ensures)) (after-outlined _ (w .kinds-of .ensures) (o .survey-after .ensures) (i1 .if1 .left)) (n .next-run .ensures) (t1 .test-of .ensures) left-brace right-brace
+    plans-comp _ _ (t1 .test-of .result) x (spec-reading _ x (z .spec-bounds .ensures)) (after-outlined _ (w .kinds-of .ensures) (o .survey-after .ensures) (i1 .before .is-stopped .ensures) (i1 .if1 .left)) (n .next-run .ensures) (t1 .test-of .ensures) left-brace right-brace
     (c6 .open-list .ensures _) (c5 .plan-signal .ensures _) (c4 .items .ensures) (c3 .newline-if .ensures _) (c2 .specs .ensures) (c1 .close-list .ensures)
 
 items-asked : (t : ℕ) → lts.Need-items-requires (body-claims t) (body-at t) body.Post
@@ -50,7 +50,7 @@ specs-asked t c κs =
     let w = o .before in
     let z = w .before in
     let s = z .before .before .before .before in
-    (omega (arith, s .pre .0), (within (s .pre .1 .0 .at) (z .spec-bounds .ensures), (s .pre .1 .1 .0, outlined-whole (after-outlined _ (w .kinds-of .ensures) (o .survey-after .ensures) (i1 .if1 .left)))))
+    (omega (arith, s .pre .0), (within (s .pre .1 .0 .at) (z .spec-bounds .ensures), (s .pre .1 .1 .0, outlined-whole (after-outlined _ (w .kinds-of .ensures) (o .survey-after .ensures) (i1 .before .is-stopped .ensures) (i1 .if1 .left)))))
 
 pub body-closed : {M : Type 1} (t : ℕ) → lts.Closed (body-claims t) (body-at t) body.Post M
 body-closed t =
@@ -61,6 +61,7 @@ body-closed t =
     (λ c κs. c .before .before .before .pre .1 .0 .at)  -- spec-bounds-requires
     (λ c κs. search needs)  -- kinds-of-requires
     (λ c κs. (c .before .spec-bounds .ensures .region, c .before .before .before .before .before .pre .1 .1 .0))  -- survey-after-requires
+    (λ c κs. search needs)  -- is-stopped-requires
     (λ c κs. search needs)  -- stop-at-requires
     (returns t)  -- returns
     (λ c κs. search needs)  -- next-run-requires
@@ -70,6 +71,6 @@ body-closed t =
     (items-asked t)  -- items-requires
     (λ c κs. search needs)  -- newline-if-requires
     (specs-asked t)  -- specs-requires
-    (λ c κs. (right-brace .known, c .before .before .before .before .before .before .before .before .before .before .before .before .before .before .before .before .before .before .before .before .before .before .before .before .before .before .before .before .before .before .before .before .before .before .before .before .survey-after .ensures .lies))  -- close-list-requires
+    (λ c κs. (right-brace .known, c .before .before .before .before .before .before .before .before .before .before .before .before .before .before .before .before .before .before .before .before .before .before .before .before .before .before .before .before .before .before .before .before .before .before .before .before .survey-after .ensures .outlines .lies))  -- close-list-requires
     (λ c. returns-2 t c .sameOps)  -- same-length
     (returns-2 t)  -- returns-2

@@ -28,7 +28,7 @@ returns-2 t c =
     let f = n .before in
     let s = f .before .before .before .before in
     let d = bounded-as _ (a .first-in .ensures) (e .end-at .ensures) (b .first-of2 .ensures) (f .first-of .ensures) (y .bounds-between .ensures) in
-    by (member-reading _ _ _ (f .first-of .ensures) (n .is-nothing .ensures) (i1 .if1 .left) d ∙ comp-foreign _ _ (survey-foreign _ (w .kinds-of .ensures) (o .survey .ensures) (c .before .before .if2 .taken))) (c .stop-at2 .ensures _ _)
+    by (member-reading _ _ _ (f .first-of .ensures) (n .is-nothing .ensures) (i1 .if1 .left) d ∙ comp-foreign _ _ (survey-foreign _ (w .kinds-of .ensures) (o .survey .ensures) (c .before .before .before .is-stopped .ensures) (c .before .before .if2 .taken))) (c .stop-at2 .ensures _ _)
 
 returns-3 : (t : ℕ) → lts.Need-returns-3 (comp-claims t) (comp-at t) comp.Post
 returns-3 t c =
@@ -67,7 +67,7 @@ body-asked t c κs =
     let f = n .before in
     let s = f .before .before .before .before in
     let d = bounded-as _ (a .first-in .ensures) (e .end-at .ensures) (b .first-of2 .ensures) (f .first-of .ensures) (y .bounds-between .ensures) in
-    (omega (arith, s .pre .0), (within (s .pre .1) d, (o .survey .ensures .lies, survey-outlined _ (w .kinds-of .ensures) (o .survey .ensures) (i2 .if2 .left))))
+    (omega (arith, s .pre .0), (within (s .pre .1) d, (o .survey .ensures .outlines .lies, survey-outlined _ (w .kinds-of .ensures) (o .survey .ensures) (i2 .before .is-stopped .ensures) (i2 .if2 .left))))
 
 pub comp-closed : {M : Type 1} (t : ℕ) → lts.Closed (comp-claims t) (comp-at t) comp.Post M
 comp-closed t =
@@ -85,6 +85,7 @@ comp-closed t =
     (bounds-asked t)  -- bounds-between-requires
     (λ c κs. search needs)  -- kinds-of-requires
     (λ c κs. c .before .bounds-between .ensures .region)  -- survey-requires
+    (λ c κs. search needs)  -- is-stopped-requires
     (λ c κs. search needs)  -- stop-at-requires-2
     (returns-2 t)  -- returns-2
     (body-asked t)  -- body-requires

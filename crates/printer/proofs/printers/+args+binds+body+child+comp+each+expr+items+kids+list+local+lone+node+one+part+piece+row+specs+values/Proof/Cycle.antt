@@ -60,9 +60,11 @@ use Rattle.printer.proofs.printers.values.Reads as values
 use Rattle.printer.proofs.printers.values.Kinds as values-kinds
 use Rattle.printer.proofs.printers.+args+binds+body+child+comp+each+expr+items+kids+list+local+lone+node+one+part+piece+row+specs+values.Lts-values as values-lts
 use Rattle.children.proofs.between.bounds_between.Reads as bounds-between-reads
+use Rattle.children.proofs.gap.at_child.Reads as at-child-reads
 use Rattle.children.proofs.gap.gap.Reads as gap-reads
 use Rattle.children.proofs.gap.lead.Reads as lead-reads
 use Rattle.tree.proofs.is_nothing.Reads as is-nothing-reads
+use Rattle.children.proofs.survey.is_stopped.Reads as is-stopped-reads
 use Rattle.children.proofs.survey.survey.Reads as survey-reads
 use Rattle.children.proofs.survey.survey_after.Reads as survey-after-reads
 use Rattle.plan.proofs.next_run.Reads as next-run-reads
@@ -109,61 +111,61 @@ use Rattle.tree.proofs.class.kinds_of.Reads as kinds-of-reads
 
 -- six times the elements under the node, and a rank: a printer that calls another at the same node has the higher one
 abbrev pub μ-args : Measures 4 args-kinds.ps ℕ
-μ-args κs a = size (a .1 .1 .1 .0 .now) (a .1 .1 .1 .1 .0) * 6 + 3
+μ-args κs a = size (a .1 .1 .1 .0 .now) (a .1 .1 .1 .1 .0 .0) * 6 + 3
 
 abbrev pub μ-binds : Measures 4 binds-kinds.ps ℕ
-μ-binds κs a = size (a .1 .1 .1 .0 .now) (a .1 .1 .1 .1 .0) * 6 + 3
+μ-binds κs a = size (a .1 .1 .1 .0 .now) (a .1 .1 .1 .1 .0 .0) * 6 + 3
 
 abbrev pub μ-body : Measures 4 body-kinds.ps ℕ
-μ-body κs a = size (a .1 .1 .1 .0 .now) (a .1 .1 .1 .1 .0) * 6 + 3
+μ-body κs a = size (a .1 .1 .1 .0 .now) (a .1 .1 .1 .1 .0 .0) * 6 + 3
 
 abbrev pub μ-child : Measures 4 child-kinds.ps ℕ
-μ-child κs a = size (a .1 .1 .1 .0 .now) (a .1 .1 .1 .1 .0) * 6
+μ-child κs a = size (a .1 .1 .1 .0 .now) (a .1 .1 .1 .1 .0 .0) * 6
 
 abbrev pub μ-comp : Measures 4 comp-kinds.ps ℕ
-μ-comp κs a = size (a .1 .1 .1 .0 .now) (a .1 .1 .1 .1 .0) * 6 + 4
+μ-comp κs a = size (a .1 .1 .1 .0 .now) (a .1 .1 .1 .1 .0 .0) * 6 + 4
 
 abbrev pub μ-each : Measures 4 each-kinds.ps ℕ
-μ-each κs a = size (a .1 .1 .1 .0 .now) (a .1 .1 .1 .1 .0) * 6 + 1
+μ-each κs a = size (a .1 .1 .1 .0 .now) (a .1 .1 .1 .1 .0 .0) * 6 + 1
 
 abbrev pub μ-expr : Measures 4 expr-kinds.ps ℕ
-μ-expr κs a = size (a .1 .1 .1 .0 .now) (a .1 .1 .1 .1 .0) * 6 + 3
+μ-expr κs a = size (a .1 .1 .1 .0 .now) (a .1 .1 .1 .1 .0 .0) * 6 + 3
 
 abbrev pub μ-items : Measures 4 items-kinds.ps ℕ
-μ-items κs a = size (a .1 .1 .1 .0 .now) (a .1 .1 .1 .1 .0) * 6 + 2
+μ-items κs a = size (a .1 .1 .1 .0 .now) (a .1 .1 .1 .1 .0 .0) * 6 + 2
 
 abbrev pub μ-kids : Measures 4 kids-kinds.ps ℕ
-μ-kids κs a = size (a .1 .1 .1 .0 .now) (a .1 .1 .1 .1 .0) * 6 + 1
+μ-kids κs a = size (a .1 .1 .1 .0 .now) (a .1 .1 .1 .1 .0 .0) * 6 + 1
 
 abbrev pub μ-list : Measures 4 list-kinds.ps ℕ
-μ-list κs a = size (a .1 .1 .1 .0 .now) (a .1 .1 .1 .1 .0) * 6 + 3
+μ-list κs a = size (a .1 .1 .1 .0 .now) (a .1 .1 .1 .1 .0 .0) * 6 + 3
 
 abbrev pub μ-local : Measures 4 local-kinds.ps ℕ
-μ-local κs a = size (a .1 .1 .1 .0 .now) (a .1 .1 .1 .1 .0) * 6 + 4
+μ-local κs a = size (a .1 .1 .1 .0 .now) (a .1 .1 .1 .1 .0 .0) * 6 + 4
 
 abbrev pub μ-lone : Measures 4 lone-kinds.ps ℕ
-μ-lone κs a = size (a .1 .1 .1 .0 .now) (a .1 .1 .1 .1 .0) * 6
+μ-lone κs a = size (a .1 .1 .1 .0 .now) (a .1 .1 .1 .1 .0 .0) * 6
 
 abbrev pub μ-node : Measures 4 node-kinds.ps ℕ
-μ-node κs a = size (a .1 .1 .1 .0 .now) (a .1 .1 .1 .1 .0) * 6 + 5
+μ-node κs a = size (a .1 .1 .1 .0 .now) (a .1 .1 .1 .1 .0 .0) * 6 + 5
 
 abbrev pub μ-one : Measures 4 one-kinds.ps ℕ
-μ-one κs a = size (a .1 .1 .1 .0 .now) (a .1 .1 .1 .1 .0) * 6
+μ-one κs a = size (a .1 .1 .1 .0 .now) (a .1 .1 .1 .1 .0 .0) * 6
 
 abbrev pub μ-part : Measures 4 part-kinds.ps ℕ
-μ-part κs a = size (a .1 .1 .1 .0 .now) (a .1 .1 .1 .1 .0) * 6
+μ-part κs a = size (a .1 .1 .1 .0 .now) (a .1 .1 .1 .1 .0 .0) * 6
 
 abbrev pub μ-piece : Measures 4 piece-kinds.ps ℕ
-μ-piece κs a = size (a .1 .1 .1 .0 .now) (a .1 .1 .1 .1 .0) * 6 + 2
+μ-piece κs a = size (a .1 .1 .1 .0 .now) (a .1 .1 .1 .1 .0 .0) * 6 + 2
 
 abbrev pub μ-row : Measures 4 row-kinds.ps ℕ
-μ-row κs a = size (a .1 .1 .1 .0 .now) (a .1 .1 .1 .1 .0) * 6 + 3
+μ-row κs a = size (a .1 .1 .1 .0 .now) (a .1 .1 .1 .1 .0 .0) * 6 + 3
 
 abbrev pub μ-specs : Measures 4 specs-kinds.ps ℕ
-μ-specs κs a = size (a .1 .1 .1 .0 .now) (a .1 .1 .1 .1 .0) * 6 + 2
+μ-specs κs a = size (a .1 .1 .1 .0 .now) (a .1 .1 .1 .1 .0 .0) * 6 + 2
 
 abbrev pub μ-values : Measures 4 values-kinds.ps ℕ
-μ-values κs a = size (a .1 .1 .1 .0 .now) (a .1 .1 .1 .1 .0) * 6
+μ-values κs a = size (a .1 .1 .1 .0 .now) (a .1 .1 .1 .1 .0 .0) * 6
 
 abbrev pub args-at : ℕ → In 4 args-kinds.ps
 args-at t = and 4 args-kinds.ps (is 4 args-kinds.ps μ-args t) args.Pre
@@ -280,19 +282,19 @@ abbrev pub values-below : ℕ → In 4 values-kinds.ps
 values-below t = and 4 values-kinds.ps (falls 4 values-kinds.ps _<_ μ-values t) values.Pre
 
 abbrev pub args-claims : ℕ → args-lts.Claims
-args-claims t = (enclosed-reads.Asked, enclosed-reads.Learnt, kinds-of-reads.Asked, kinds-of-reads.Learnt, survey-reads.Asked, survey-reads.Learnt, stop-at-reads.Asked, stop-at-reads.Learnt, next-run-reads.Asked, next-run-reads.Learnt, test-of-reads.Asked, test-of-reads.Learnt, open-list-reads.Asked, open-list-reads.Learnt, items-below t, items.Post, close-arguments-reads.Asked, close-arguments-reads.Learnt)
+args-claims t = (enclosed-reads.Asked, enclosed-reads.Learnt, kinds-of-reads.Asked, kinds-of-reads.Learnt, survey-reads.Asked, survey-reads.Learnt, is-stopped-reads.Asked, is-stopped-reads.Learnt, stop-at-reads.Asked, stop-at-reads.Learnt, next-run-reads.Asked, next-run-reads.Learnt, test-of-reads.Asked, test-of-reads.Learnt, open-list-reads.Asked, open-list-reads.Learnt, items-below t, items.Post, close-arguments-reads.Asked, close-arguments-reads.Learnt)
 
 abbrev pub binds-claims : ℕ → binds-lts.Claims
-binds-claims t = (enclosed-reads.Asked, enclosed-reads.Learnt, kinds-of-reads.Asked, kinds-of-reads.Learnt, survey-reads.Asked, survey-reads.Learnt, stop-at-reads.Asked, stop-at-reads.Learnt, lone-below t, lone.Post, open-binds-reads.Asked, open-binds-reads.Learnt, items-below t, items.Post, close-binds-reads.Asked, close-binds-reads.Learnt)
+binds-claims t = (enclosed-reads.Asked, enclosed-reads.Learnt, kinds-of-reads.Asked, kinds-of-reads.Learnt, survey-reads.Asked, survey-reads.Learnt, is-stopped-reads.Asked, is-stopped-reads.Learnt, stop-at-reads.Asked, stop-at-reads.Learnt, lone-below t, lone.Post, open-binds-reads.Asked, open-binds-reads.Learnt, items-below t, items.Post, close-binds-reads.Asked, close-binds-reads.Learnt)
 
 abbrev pub body-claims : ℕ → body-lts.Claims
-body-claims t = (spec-bounds-reads.Asked, spec-bounds-reads.Learnt, kinds-of-reads.Asked, kinds-of-reads.Learnt, survey-after-reads.Asked, survey-after-reads.Learnt, stop-at-reads.Asked, stop-at-reads.Learnt, next-run-reads.Asked, next-run-reads.Learnt, test-of-reads.Asked, test-of-reads.Learnt, open-list-reads.Asked, open-list-reads.Learnt, plan-signal-reads.Asked, plan-signal-reads.Learnt, items-below t, items.Post, newline-if-reads.Asked, newline-if-reads.Learnt, specs-below t, specs.Post, close-list-reads.Asked, close-list-reads.Learnt)
+body-claims t = (spec-bounds-reads.Asked, spec-bounds-reads.Learnt, kinds-of-reads.Asked, kinds-of-reads.Learnt, survey-after-reads.Asked, survey-after-reads.Learnt, is-stopped-reads.Asked, is-stopped-reads.Learnt, stop-at-reads.Asked, stop-at-reads.Learnt, next-run-reads.Asked, next-run-reads.Learnt, test-of-reads.Asked, test-of-reads.Learnt, open-list-reads.Asked, open-list-reads.Learnt, plan-signal-reads.Asked, plan-signal-reads.Learnt, items-below t, items.Post, newline-if-reads.Asked, newline-if-reads.Learnt, specs-below t, specs.Post, close-list-reads.Asked, close-list-reads.Learnt)
 
 abbrev pub child-claims : ℕ → child-lts.Claims
 child-claims t = (plan-above-reads.Asked, plan-above-reads.Learnt, node-below t, node.Post, plan-behind-reads.Asked, plan-behind-reads.Learnt)
 
 abbrev pub comp-claims : ℕ → comp-lts.Claims
-comp-claims t = (first-of-reads.Asked, first-of-reads.Learnt, is-nothing-reads.Asked, is-nothing-reads.Learnt, stop-at-reads.Asked, stop-at-reads.Learnt, first-in-reads.Asked, first-in-reads.Learnt, end-at-reads.Asked, end-at-reads.Learnt, bounds-between-reads.Asked, bounds-between-reads.Learnt, kinds-of-reads.Asked, kinds-of-reads.Learnt, survey-reads.Asked, survey-reads.Learnt, body-below t, body.Post)
+comp-claims t = (first-of-reads.Asked, first-of-reads.Learnt, is-nothing-reads.Asked, is-nothing-reads.Learnt, stop-at-reads.Asked, stop-at-reads.Learnt, first-in-reads.Asked, first-in-reads.Learnt, end-at-reads.Asked, end-at-reads.Learnt, bounds-between-reads.Asked, bounds-between-reads.Learnt, kinds-of-reads.Asked, kinds-of-reads.Learnt, survey-reads.Asked, survey-reads.Learnt, is-stopped-reads.Asked, is-stopped-reads.Learnt, body-below t, body.Post)
 
 abbrev pub each-claims : ℕ → each-lts.Claims
 each-claims t = (end-at-reads.Asked, end-at-reads.Learnt, first-in-reads.Asked, first-in-reads.Learnt, one-below t, one.Post)
@@ -304,10 +306,10 @@ abbrev pub items-claims : ℕ → items-lts.Claims
 items-claims t = (kinds-of-reads.Asked, kinds-of-reads.Learnt, gap-reads.Asked, gap-reads.Learnt, kids-below t, kids.Post)
 
 abbrev pub kids-claims : ℕ → kids-lts.Claims
-kids-claims t = (kinds-of-reads.Asked, kinds-of-reads.Learnt, end-at-reads.Asked, end-at-reads.Learnt, gap-reads.Asked, gap-reads.Learnt, child-below t, child.Post)
+kids-claims t = (kinds-of-reads.Asked, kinds-of-reads.Learnt, at-child-reads.Asked, at-child-reads.Learnt, end-at-reads.Asked, end-at-reads.Learnt, gap-reads.Asked, gap-reads.Learnt, child-below t, child.Post)
 
 abbrev pub list-claims : ℕ → list-lts.Claims
-list-claims t = (opener-reads.Asked, opener-reads.Learnt, closer-reads.Asked, closer-reads.Learnt, enclosed-reads.Asked, enclosed-reads.Learnt, child-class-reads.Asked, child-class-reads.Learnt, kinds-of-reads.Asked, kinds-of-reads.Learnt, survey-reads.Asked, survey-reads.Learnt, stop-at-reads.Asked, stop-at-reads.Learnt, is-empty-reads.Asked, is-empty-reads.Learnt, empty-word-reads.Asked, empty-word-reads.Learnt, plan-word-reads.Asked, plan-word-reads.Learnt, next-run-reads.Asked, next-run-reads.Learnt, test-of-reads.Asked, test-of-reads.Learnt, open-word-reads.Asked, open-word-reads.Learnt, open-list-reads.Asked, open-list-reads.Learnt, plan-signal-reads.Asked, plan-signal-reads.Learnt, items-below t, items.Post, close-word-reads.Asked, close-word-reads.Learnt, close-list-reads.Asked, close-list-reads.Learnt)
+list-claims t = (opener-reads.Asked, opener-reads.Learnt, closer-reads.Asked, closer-reads.Learnt, enclosed-reads.Asked, enclosed-reads.Learnt, child-class-reads.Asked, child-class-reads.Learnt, kinds-of-reads.Asked, kinds-of-reads.Learnt, survey-reads.Asked, survey-reads.Learnt, is-stopped-reads.Asked, is-stopped-reads.Learnt, stop-at-reads.Asked, stop-at-reads.Learnt, is-empty-reads.Asked, is-empty-reads.Learnt, empty-word-reads.Asked, empty-word-reads.Learnt, plan-word-reads.Asked, plan-word-reads.Learnt, next-run-reads.Asked, next-run-reads.Learnt, test-of-reads.Asked, test-of-reads.Learnt, open-word-reads.Asked, open-word-reads.Learnt, open-list-reads.Asked, open-list-reads.Learnt, plan-signal-reads.Asked, plan-signal-reads.Learnt, items-below t, items.Post, close-word-reads.Asked, close-word-reads.Learnt, close-list-reads.Asked, close-list-reads.Learnt)
 
 abbrev pub local-claims : ℕ → local-lts.Claims
 local-claims t = (binds-below t, binds.Post, plan-word-reads.Asked, plan-word-reads.Learnt, plan-signal-reads.Asked, plan-signal-reads.Learnt)
@@ -331,7 +333,7 @@ abbrev pub row-claims : ℕ → row-lts.Claims
 row-claims t = (kind-at-reads.Asked, kind-at-reads.Learnt, row-of-reads.Asked, row-of-reads.Learnt, marks-in-reads.Asked, marks-in-reads.Learnt, piece-below t, piece.Post)
 
 abbrev pub specs-claims : ℕ → specs-lts.Claims
-specs-claims t = (kinds-of-reads.Asked, kinds-of-reads.Learnt, lead-reads.Asked, lead-reads.Learnt, end-at-reads.Asked, end-at-reads.Learnt, gap-reads.Asked, gap-reads.Learnt, unasked-reads.Asked, unasked-reads.Learnt, child-below t, child.Post, kids-below t, kids.Post)
+specs-claims t = (kinds-of-reads.Asked, kinds-of-reads.Learnt, lead-reads.Asked, lead-reads.Learnt, at-child-reads.Asked, at-child-reads.Learnt, end-at-reads.Asked, end-at-reads.Learnt, gap-reads.Asked, gap-reads.Learnt, unasked-reads.Asked, unasked-reads.Learnt, child-below t, child.Post, kids-below t, kids.Post)
 
 abbrev pub values-claims : ℕ → values-lts.Claims
-values-claims t = (kinds-of-reads.Asked, kinds-of-reads.Learnt, survey-reads.Asked, survey-reads.Learnt, stop-at-reads.Asked, stop-at-reads.Learnt, gap-reads.Asked, gap-reads.Learnt, node-below t, node.Post, end-at-reads.Asked, end-at-reads.Learnt)
+values-claims t = (kinds-of-reads.Asked, kinds-of-reads.Learnt, survey-reads.Asked, survey-reads.Learnt, is-stopped-reads.Asked, is-stopped-reads.Learnt, stop-at-reads.Asked, stop-at-reads.Learnt, gap-reads.Asked, gap-reads.Learnt, at-child-reads.Asked, at-child-reads.Learnt, node-below t, node.Post, end-at-reads.Asked, end-at-reads.Learnt)

@@ -11,7 +11,7 @@ use Rattle.printer.proofs.printers.+args+binds+body+child+comp+each+exp
 use Rattle.printer.proofs.printers.+args+binds+body+child+comp+each+expr+items+kids+list+local+lone+node+one+part+piece+row+specs+values.Proof.Cycle.{each-at, each-claims}
 
 abbrev Inv-loop : lts.InvT-loop
-Inv-loop ops₀ cells₀ image index i x end j₀ ops cells j = Eaching image index i (wantAt (x .want) .class) (wordAt (x .word)) (eqb (x .what) 6) (held ops₀ cells₀) (held ops cells) j
+Inv-loop ops₀ cells₀ image index i x end j₀ ops cells j = Eaching image index (i .0) (wantAt (x .want) .class) (wordAt (x .word)) (eqb (x .what) 6) (held ops₀ cells₀) (held ops cells) j
 
 abbrev μ-loop : lts.MeasureT-loop
 μ-loop ops₀ cells₀ image index i x end j₀ ops cells j = end - j

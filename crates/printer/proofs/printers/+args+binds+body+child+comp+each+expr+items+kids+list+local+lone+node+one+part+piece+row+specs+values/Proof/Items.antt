@@ -19,7 +19,7 @@ kids-asked : (t : ℕ) → lts.Need-kids-requires (items-claims t) (items-at t) 
 kids-asked t c κs =
     let g = c .before .before in
     let s = g .before .before .before .before .before in
-    (omega (arith, s .pre .0), walks-first _ (s .pre .1 .0) (spans-as (g .before .kinds-of .ensures) (g .gap .ensures)) (s .pre .1 .1))
+    (omega (arith, s .pre .0), walks-first _ (s .pre .1 .0) (spans-as (g .before .kinds-of .ensures) (g .gap .ensures)))
 
 pub items-closed : {M : Type 1} (t : ℕ) → lts.Closed (items-claims t) (items-at t) items.Post M
 items-closed t =

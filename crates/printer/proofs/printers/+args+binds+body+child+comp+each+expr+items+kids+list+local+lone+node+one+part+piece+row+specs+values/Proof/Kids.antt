@@ -1,5 +1,6 @@
 use Prim.Native.Nat.{ℕ, _-_}
 use borrow.Author.Needs.{needs}
+use Rattle.children.proofs.Uses.{child-is}
 use Rattle.printer.proofs.Walking.{walks-region, walks-less, Walking, walking-none, walking-more, walking-all}
 use Rattle.plan.specs.Plans.{held}
 use Rattle.items.specs.Item.{conditionTest}
@@ -9,7 +10,7 @@ use Rattle.printer.proofs.printers.+args+binds+body+child+comp+each+exp
 use Rattle.printer.proofs.Readings.{walks-kid}
 
 abbrev Inv-loop : lts.InvT-loop
-Inv-loop ops₀ cells₀ image index i loose b style t w s₀ ops cells s = Walking image index i w loose b style (conditionTest t) s₀ (held ops₀ cells₀) (held ops cells) s
+Inv-loop ops₀ cells₀ image index i loose b style t w s₀ ops cells s = Walking image index (i .0) w loose b style (conditionTest t) s₀ (held ops₀ cells₀) (held ops cells) s
 
 abbrev μ-loop : lts.MeasureT-loop
 μ-loop ops₀ cells₀ image index i loose b style t w s₀ ops cells s = b - s .to
@@ -27,9 +28,10 @@ kids-closed t =
     μ-loop
     (λ c κs. search needs)  -- kinds-of-requires
     (λ c. search walking-none)  -- loop-holds
+    (λ c κs. search needs)  -- at-child-requires
     (λ c κs. search needs)  -- end-at-requires
     (λ c κs. search walks-region)  -- gap-requires
-    (λ c κs. (search needs, (search walks-kid, (search needs, search needs))))  -- child-requires
+    (λ c κs. (search needs, (search (walks-kid, child-is), (search needs, search needs))))  -- child-requires
     (λ c. search walks-less)  -- loop-less
     (λ c. search walking-more)  -- loop-again
     (λ c. returns t c .sameOps)  -- same-length

@@ -20,7 +20,7 @@ returns t c =
     let z = d .before in
     let s = z .before .before .before .before .before .before in
     let r = list-reading _ (s .args .l) (z .before .before .opener .ensures) (z .before .closer .ensures) (d .child-class .ensures) (z .enclosed .ensures) in
-    by (list-foreign _ _ _ _ (r ∙ survey-foreign _ (w .kinds-of .ensures) (o .survey .ensures) (i1 .if1 .taken))) (c .stop-at .ensures _ _)
+    by (list-foreign _ _ _ _ (r ∙ survey-foreign _ (w .kinds-of .ensures) (o .survey .ensures) (i1 .before .is-stopped .ensures) (i1 .if1 .taken))) (c .stop-at .ensures _ _)
 
 returns-2 : (t : ℕ) → lts.Need-returns-2 (list-claims t) (list-at t) list.Post
 returns-2 t c =
@@ -33,7 +33,7 @@ returns-2 t c =
     let z = d .before in
     let s = z .before .before .before .before .before .before in
     let r = list-reading _ (s .args .l) (z .before .before .opener .ensures) (z .before .closer .ensures) (d .child-class .ensures) (z .enclosed .ensures) in
-    plans-empty _ _ _ _ r (survey-outlined _ (w .kinds-of .ensures) (o .survey .ensures) (i1 .if1 .left)) (i2 .before .is-empty .ensures) (i2 .if2 .taken) (c1 .before .empty-word .ensures) (c1 .plan-word .ensures _)
+    plans-empty _ _ _ _ r (survey-outlined _ (w .kinds-of .ensures) (o .survey .ensures) (i1 .before .is-stopped .ensures) (i1 .if1 .left)) (i2 .before .is-empty .ensures) (i2 .if2 .taken) (c1 .before .empty-word .ensures) (c1 .plan-word .ensures _)
 
 returns-3 : (t : ℕ) → lts.Need-returns-3 (list-claims t) (list-at t) list.Post
 returns-3 t c =
@@ -51,7 +51,7 @@ returns-3 t c =
     let z = d .before in
     let s = z .before .before .before .before .before .before in
     let r = list-reading _ (s .args .l) (z .before .before .opener .ensures) (z .before .closer .ensures) (d .child-class .ensures) (z .enclosed .ensures) in
-    plans-list _ _ _ _ r (t1 .test-of .result) (survey-outlined _ (w .kinds-of .ensures) (o .survey .ensures) (i1 .if1 .left)) (i2 .before .is-empty .ensures) (i2 .if2 .left) (n .next-run .ensures) (t1 .test-of .ensures) (c4 .before .open-word .ensures) (c1 .before .close-word .ensures)
+    plans-list _ _ _ _ r (t1 .test-of .result) (survey-outlined _ (w .kinds-of .ensures) (o .survey .ensures) (i1 .before .is-stopped .ensures) (i1 .if1 .left)) (i2 .before .is-empty .ensures) (i2 .if2 .left) (n .next-run .ensures) (t1 .test-of .ensures) (c4 .before .open-word .ensures) (c1 .before .close-word .ensures)
     (c4 .open-list .ensures _) (c3 .plan-signal .ensures _) (c2 .items .ensures) (c1 .close-list .ensures)
 
 items-asked : (t : ℕ) → lts.Need-items-requires (list-claims t) (list-at t) list.Post
@@ -61,10 +61,10 @@ items-asked t c κs =
     let w = o .before in
     let z = w .before .before in
     let s = z .before .before .before .before .before .before in
-    (omega (arith, s .pre .0), (within (s .pre .1) (z .enclosed .ensures), outlined-whole (survey-outlined _ (w .kinds-of .ensures) (o .survey .ensures) (i1 .if1 .left))))
+    (omega (arith, s .pre .0), (within (s .pre .1) (z .enclosed .ensures), outlined-whole (survey-outlined _ (w .kinds-of .ensures) (o .survey .ensures) (i1 .before .is-stopped .ensures) (i1 .if1 .left))))
 
 close-asked : (t : ℕ) → lts.Need-close-list-requires (list-claims t) (list-at t) list.Post
-close-asked t c κs = (c .close-word .ensures .known, c .before .before .before .before .before .before .before .before .before .before .before .before .before .before .before .before .before .before .before .before .before .before .before .before .before .before .before .survey .ensures .lies)
+close-asked t c κs = (c .close-word .ensures .known, c .before .before .before .before .before .before .before .before .before .before .before .before .before .before .before .before .before .before .before .before .before .before .before .before .before .before .before .survey .ensures .outlines .lies)
 
 pub list-closed : {M : Type 1} (t : ℕ) → lts.Closed (list-claims t) (list-at t) list.Post M
 list-closed t =
@@ -78,6 +78,7 @@ list-closed t =
     (λ c κs. search needs)  -- child-class-requires
     (λ c κs. search needs)  -- kinds-of-requires
     (λ c κs. c .before .before .enclosed .ensures .region)  -- survey-requires
+    (λ c κs. search needs)  -- is-stopped-requires
     (λ c κs. search needs)  -- stop-at-requires
     (returns t)  -- returns
     (λ c κs. search needs)  -- is-empty-requires

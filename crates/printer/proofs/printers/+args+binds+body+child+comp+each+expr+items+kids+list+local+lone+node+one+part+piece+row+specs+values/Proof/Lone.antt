@@ -21,7 +21,7 @@ returns t c =
     let g = c3 .before .before .before in
     let w = g .before in
     let s = w .before .before .before .before in
-    let k = walks-kid (walks-first _ (s .pre .1 .0) (spans-as (w .kinds-of .ensures) (g .gap .ensures)) (s .pre .1 .1 .0)) (lone-there (w .kinds-of .ensures) (g .gap .ensures) (s .pre .1 .1 .0) (s .pre .1 .1 .1)) in
+    let k = walks-kid (walks-first _ (s .pre .1 .0) (spans-as (w .kinds-of .ensures) (g .gap .ensures))) (lone-there (w .kinds-of .ensures) (g .gap .ensures) (s .pre .1 .1 .0) (s .pre .1 .1 .1)) in
     by (lone-is (w .kinds-of .ensures) (g .gap .ensures) (s .pre .1 .1 .0) (s .pre .1 .1 .1) _) (c3 .plan-waiting .ensures ▸ c2 .plan-word .ensures _ ▸ by (kid-print k) (c1 .node .ensures))
 
 node-asked : (t : ℕ) → lts.Need-node-requires (lone-claims t) (lone-at t) lone.Post
@@ -29,7 +29,7 @@ node-asked t c κs =
     let g = c .before .before .before .before .before .before .before .before .before .before .before .before in
     let w = g .before in
     let s = w .before .before .before .before in
-    let k = walks-kid (walks-first _ (s .pre .1 .0) (spans-as (w .kinds-of .ensures) (g .gap .ensures)) (s .pre .1 .1 .0)) (lone-there (w .kinds-of .ensures) (g .gap .ensures) (s .pre .1 .1 .0) (s .pre .1 .1 .1)) in
+    let k = walks-kid (walks-first _ (s .pre .1 .0) (spans-as (w .kinds-of .ensures) (g .gap .ensures))) (lone-there (w .kinds-of .ensures) (g .gap .ensures) (s .pre .1 .1 .0) (s .pre .1 .1 .1)) in
     (kid-falls 0 k (omega (arith, s .pre .0)), kid-at k)
 
 pub lone-closed : {M : Type 1} (t : ℕ) → lts.Closed (lone-claims t) (lone-at t) lone.Post M

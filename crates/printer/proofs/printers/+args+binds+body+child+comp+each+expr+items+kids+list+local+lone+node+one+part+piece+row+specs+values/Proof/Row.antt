@@ -9,7 +9,7 @@ use Rattle.printer.proofs.printers.+args+binds+body+child+comp+each+exp
 use Rattle.printer.proofs.printers.+args+binds+body+child+comp+each+expr+items+kids+list+local+lone+node+one+part+piece+row+specs+values.Proof.Cycle.{row-at, row-claims}
 
 abbrev Inv-loop : lts.InvT-loop
-Inv-loop ops₀ cells₀ image index i m end n₀ ops cells n = Rowing image index i m end (held ops₀ cells₀) (held ops cells) n
+Inv-loop ops₀ cells₀ image index i m end n₀ ops cells n = Rowing image index (i .0) m end (held ops₀ cells₀) (held ops cells) n
 
 abbrev μ-loop : lts.MeasureT-loop
 μ-loop ops₀ cells₀ image index i m end n₀ ops cells n = end - n

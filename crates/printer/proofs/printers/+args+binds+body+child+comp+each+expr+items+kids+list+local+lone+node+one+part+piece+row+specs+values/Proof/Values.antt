@@ -1,5 +1,6 @@
 use Prim.Native.Nat.{ℕ, _-_}
 use borrow.Author.Needs.{needs}
+use Rattle.children.proofs.Uses.{child-is}
 use Rattle.printer.proofs.Walking.{survey-outlined, survey-foreign, walks-region, walks-less, Valuing, valuing-none, valuing-more, valuing-all, values-over, values-foreign}
 use Rattle.printer.proofs.Rowing.{kid-falls}
 use native.Mathlib.Omega.{arith}
@@ -12,16 +13,16 @@ use Rattle.printer.proofs.Under.{kid-at}
 use Rattle.printer.proofs.Readings.{walks-kid}
 
 abbrev Inv-loop : lts.InvT-loop
-Inv-loop ops₀ cells₀ image index i z w s₀ ops cells s = Valuing image index i w (z .loose) (z .to) s₀ (held ops₀ cells₀) (held ops cells) s
+Inv-loop ops₀ cells₀ image index z w s₀ ops cells s = Valuing image index w z s₀ (held ops₀ cells₀) (held ops cells) s
 
 abbrev μ-loop : lts.MeasureT-loop
-μ-loop ops₀ cells₀ image index i z w s₀ ops cells s = z .to - s .to
+μ-loop ops₀ cells₀ image index z w s₀ ops cells s = z .to - s .to
 
 returns : (t : ℕ) → lts.Need-returns (values-claims t) (values-at t) values.Post Inv-loop μ-loop
 returns t c = by (values-over _ _ _ _ _ (c .if1 .taken)) idle
 
 returns-2 : (t : ℕ) → lts.Need-returns-2 (values-claims t) (values-at t) values.Post Inv-loop μ-loop
-returns-2 t c = by (values-foreign _ (survey-foreign _ (c .before .before .before .before .before .kinds-of .ensures) (c .before .before .before .before .survey .ensures) (c .before .before .if2 .taken))) (c .stop-at .ensures _ _)
+returns-2 t c = by (values-foreign _ (survey-foreign _ (c .before .before .before .before .before .kinds-of .ensures) (c .before .before .before .before .survey .ensures) (c .before .before .before .is-stopped .ensures) (c .before .before .if2 .taken))) (c .stop-at .ensures _ _)
 
 returns-3 : (t : ℕ) → lts.Need-returns-3 (values-claims t) (values-at t) values.Post Inv-loop μ-loop
 returns-3 t c =
@@ -29,21 +30,31 @@ returns-3 t c =
     let i1 = g .before in
     let o = i1 .before .before in
     let k = o .before in
-    valuing-all _ (k .kinds-of .ensures) (g .gap .ensures) (survey-outlined _ (k .kinds-of .ensures) (o .survey .ensures) (i1 .if2 .left)) (c .before .before .loop .inv) (c .if3 .left)
+    let s = k .before .before .before .before .before .before in
+    valuing-all _ (s .pre .1) (k .kinds-of .ensures) (g .gap .ensures) (survey-outlined _ (k .kinds-of .ensures) (o .survey .ensures) (i1 .before .is-stopped .ensures) (i1 .if2 .left)) (c .before .before .loop .inv) (c .before .at-child .ensures) (c .if3 .left)
 
 node-asked : (t : ℕ) → lts.Need-node-requires (values-claims t) (values-at t) values.Post Inv-loop μ-loop
 node-asked t c κs =
-    let s = c .before .before .before .before .before .before .before .before .before .before .before .before .before .before .before in
-    let k = walks-kid (c .before .before .before .before .loop .inv .walks) (c .before .before .if3 .taken) in
+    let i3 = c .before .before in
+    let l = i3 .before .before in
+    let s = l .before .before .before .before .before .before .before .before .before .before .before in
+    let k = walks-kid (l .loop .inv .walks (s .pre .1)) (child-is _ (i3 .before .at-child .ensures) (i3 .if3 .taken)) in
     (kid-falls 0 k (omega (arith, s .pre .0)), kid-at k)
 
-holds : (t : ℕ) → lts.Need-loop-holds (values-claims t) (values-at t) values.Post Inv-loop μ-loop
-holds t c =
-    let i1 = c .before in
-    let o = i1 .before .before in
-    let k = o .before in
-    let s = k .before .before .before .before .before .before in
-    valuing-none _ (s .pre .1) (k .kinds-of .ensures) (c .gap .ensures) (survey-outlined _ (k .kinds-of .ensures) (o .survey .ensures) (i1 .if2 .left))
+gap-asked : (t : ℕ) → lts.Need-gap-requires-2 (values-claims t) (values-at t) values.Post Inv-loop μ-loop
+gap-asked t c κs =
+    let i3 = c .before .before .before .before .before .before in
+    let l = i3 .before .before in
+    let s = l .before .before .before .before .before .before .before .before .before .before .before in
+    walks-region (l .loop .inv .walks (s .pre .1)) (i3 .before .at-child .ensures) (i3 .if3 .taken) (c .end-at .ensures)
+
+less : (t : ℕ) → lts.Need-loop-less (values-claims t) (values-at t) values.Post Inv-loop μ-loop
+less t c =
+    let e = c .before in
+    let i3 = e .before .before .before .before .before .before in
+    let l = i3 .before .before in
+    let s = l .before .before .before .before .before .before .before .before .before .before .before in
+    walks-less (l .loop .inv .walks (s .pre .1)) (i3 .before .at-child .ensures) (i3 .if3 .taken) (e .end-at .ensures) (c .gap2 .ensures)
 
 pub values-closed : {M : Type 1} (t : ℕ) → lts.Closed (values-claims t) (values-at t) values.Post M
 values-closed t =
@@ -56,14 +67,16 @@ values-closed t =
     (returns t)  -- returns
     (λ c κs. search needs)  -- kinds-of-requires
     (λ c κs. search needs)  -- survey-requires
+    (λ c κs. search needs)  -- is-stopped-requires
     (λ c κs. search needs)  -- stop-at-requires
     (returns-2 t)  -- returns-2
     (λ c κs. search needs)  -- gap-requires
-    (holds t)  -- loop-holds
+    (λ c. search valuing-none)  -- loop-holds
+    (λ c κs. search needs)  -- at-child-requires
     (node-asked t)  -- node-requires
     (λ c κs. search needs)  -- end-at-requires
-    (λ c κs. search walks-region)  -- gap-requires-2
-    (λ c. search walks-less)  -- loop-less
+    (gap-asked t)  -- gap-requires-2
+    (less t)  -- loop-less
     (λ c. search valuing-more)  -- loop-again
     (λ c. returns-3 t c .sameOps)  -- same-length
     (returns-3 t)  -- returns-3
