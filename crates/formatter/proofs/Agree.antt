@@ -1,5 +1,5 @@
 -- The printing with its bodies put back is the plain printing, and the numbers that its items name are small.
-use mathlib.Core.Path.{_≡_, refl, ap}
+use mathlib.Core.Path.{_≡_, refl, ap, _∙_}
 use mathlib.Core.Bool.{Bool, true, false, cond, not, _||_}
 use mathlib.Core.Option.{Option, none as nothing, some}
 use mathlib.Core.List.{List, [], _∷_, _++_, append-nil, append-assoc}
@@ -27,7 +27,7 @@ use Rattle.printer.specs.Combine
 use Rattle.printer.specs.Print
 use Rattle.plan.specs.Load.{numberIn}
 use Rattle.formatter.proofs.Numbers.{signal-sign}
-use Rattle.formatter.specs.PutBack.{Body, State, bodyOf, emit, opened, closed, put, puts, nothingYet, putBack}
+use Rattle.formatter.specs.PutBack.{Body, Open, State, bodyOf, emit, opened, closed, put, puts, nothingYet, putBack}
 use Rattle.formatter.specs.PlainCombine
 use Rattle.formatter.specs.Plain
 
@@ -103,13 +103,28 @@ still-fits {k} (e ▹ m) = let f = still-fits {k = k} m in record {
   small = e .below ▹ f .small;
 }
 
+-- a run-end with the number of the innermost open run closes it
+closed-own : (k : ℕ) (xs : List Item) (outer : List Open) (s : State)
+    → closed k (record { number = k; before = xs } ∷ outer) s ≡ record { out = xs ++ s .out; outer = outer; bodies = record { number = k; items = s .out } ∷ s .bodies }
+unfolding closed
+closed-own k xs outer s = rw (eq-eqb k k refl)
+
+-- the body of the run that was closed last
+own-body : (k : ℕ) (xs : List Item) (bs : List Body) → bodyOf k (record { number = k; items = xs } ∷ bs) ≡ xs
+unfolding bodyOf
+own-body k xs bs = rw (eq-eqb k k refl)
+
 -- a run, and its repetition: items that stay are between the two and behind
 run-fits : {k l : ℕ} {xs ys us vs : List Item} → Fits 0 0 (suc k) l xs ys → All (Still k) us → All (Still k) vs
     → Fits 2 0 k l (run k ∷ xs ++ (runEnd k ∷ us ++ (again k ∷ vs))) (ys ++ (us ++ (ys ++ vs)))
-unfolding puts put closed sum bodyOf
+unfolding puts put sum
 run-fits {k} {l} {xs} {ys} {us} {vs} f p q = let g = still-fits p in let h = still-fits q in record {
-  back = λ s. let (m, e) = f .back (opened s) in
-      (record { number = k; items = ys } ∷ m, rw (puts-append, e, puts-append us (again k ∷ vs), still-puts p, bodyOf, eq-eqb k k refl, still-puts q) (simp append-assoc));
+  back = λ s. let (m, e) = f .back (opened k s) in
+      let z = closed-own k (s .out) (s .outer) (record { out = ys; outer = opened k s .outer; bodies = m }) in (
+        record { number = k; items = ys } ∷ m,
+        rw (puts-append, e) (ap (puts (us ++ (again k ∷ vs))) z
+            ∙ rw (puts-append us (again k ∷ vs), still-puts p, still-puts q, own-body, append-assoc, append-assoc, append-assoc)),
+      );
   next = rw runs-append (omega (arith, f .next, runs-append us (again k ∷ vs), g .next, h .next));
   marks = rw (runs-append, marks-append) (omega (arith, f .marks, runs-append us (again k ∷ vs), marks-append us (again k ∷ vs), g .next, g .marks, h .next, h .marks));
   small = let t : k ≤ l = omega (arith, f .next) in
