@@ -1,5 +1,5 @@
 -- The printing with its bodies put back is the plain printing, and the numbers that its items name are small.
-use mathlib.Core.Path.{_≡_, refl, ap}
+use mathlib.Core.Path.{_≡_, refl, ap, _∙_}
 use mathlib.Core.Bool.{Bool, true, false, cond, not, _||_}
 use mathlib.Core.Option.{Option, none as nothing, some}
 use mathlib.Core.List.{List, [], _∷_, _++_, append-nil, append-assoc}
@@ -27,7 +27,8 @@ use Rattle.printer.specs.Combine
 use Rattle.printer.specs.Print
 use Rattle.plan.specs.Load.{numberIn}
 use Rattle.formatter.proofs.Numbers.{signal-sign}
-use Rattle.formatter.specs.PutBack.{Body, State, bodyOf, emit, opened, closed, put, puts, nothingYet, putBack}
+use Rattle.formatter.specs.PutBack.{Body, Open, State, bodyOf, emit, opened, closed, put, puts, nothingYet, putBack}
+use Rattle.formatter.specs.PlainCombine
 use Rattle.formatter.specs.Plain
 
 -- The number that an item names is at most that of the second mark of list l.
@@ -102,13 +103,28 @@ still-fits {k} (e ▹ m) = let f = still-fits {k = k} m in record {
   small = e .below ▹ f .small;
 }
 
+-- a run-end with the number of the innermost open run closes it
+closed-own : (k : ℕ) (xs : List Item) (outer : List Open) (s : State)
+    → closed k (record { number = k; before = xs } ∷ outer) s ≡ record { out = xs ++ s .out; outer = outer; bodies = record { number = k; items = s .out } ∷ s .bodies }
+unfolding closed
+closed-own k xs outer s = rw (eq-eqb k k refl)
+
+-- the body of the run that was closed last
+own-body : (k : ℕ) (xs : List Item) (bs : List Body) → bodyOf k (record { number = k; items = xs } ∷ bs) ≡ xs
+unfolding bodyOf
+own-body k xs bs = rw (eq-eqb k k refl)
+
 -- a run, and its repetition: items that stay are between the two and behind
 run-fits : {k l : ℕ} {xs ys us vs : List Item} → Fits 0 0 (suc k) l xs ys → All (Still k) us → All (Still k) vs
     → Fits 2 0 k l (run k ∷ xs ++ (runEnd k ∷ us ++ (again k ∷ vs))) (ys ++ (us ++ (ys ++ vs)))
-unfolding puts put closed sum bodyOf
+unfolding puts put sum
 run-fits {k} {l} {xs} {ys} {us} {vs} f p q = let g = still-fits p in let h = still-fits q in record {
-  back = λ s. let (m, e) = f .back (opened s) in
-      (record { number = k; items = ys } ∷ m, rw (puts-append, e, puts-append us (again k ∷ vs), still-puts p, bodyOf, eq-eqb k k refl, still-puts q) (simp append-assoc));
+  back = λ s. let (m, e) = f .back (opened k s) in
+      let z = closed-own k (s .out) (s .outer) (record { out = ys; outer = opened k s .outer; bodies = m }) in (
+        record { number = k; items = ys } ∷ m,
+        rw (puts-append, e) (ap (puts (us ++ (again k ∷ vs))) z
+            ∙ rw (puts-append us (again k ∷ vs), still-puts p, still-puts q, own-body, append-assoc, append-assoc, append-assoc)),
+      );
   next = rw runs-append (omega (arith, f .next, runs-append us (again k ∷ vs), g .next, h .next));
   marks = rw (runs-append, marks-append) (omega (arith, f .marks, runs-append us (again k ∷ vs), marks-append us (again k ∷ vs), g .next, g .marks, h .next, h .marks));
   small = let t : k ≤ l = omega (arith, f .next) in
@@ -182,8 +198,8 @@ text-still : {k : ℕ} (s : List ℕ) → All (Still k) (text s ∷ [])
 text-still s = still (text s) refl refl ▹ ∅
 
 -- a list's brackets and marks, around one run
-brackets-agree : {j : ℕ} (a z : String) (p q : ℕ → Print) → ((k : ℕ) → Meets 2 0 k (p k k) (q k k)) → Agree j (Combine.bracketed a z p) (Combine.bracketed a z q)
-unfolding _⨟_ withNumber lit say Combine.bracketed
+brackets-agree : {j : ℕ} (a z : String) (p q : ℕ → Print) → ((k : ℕ) → Meets 2 0 k (p k k) (q k k)) → Agree j (Combine.bracketed a z p) (PlainCombine.bracketed a z q)
+unfolding _⨟_ withNumber lit say Combine.bracketed PlainCombine.bracketed
 brackets-agree a z p q h = record {
   at = λ k i.
       cancel (after-meets (still-fits (text-still (ascii a))) (after-meets (mark-fits (2 * k) k (omega arith)) (next-meets (h k)
@@ -209,7 +225,7 @@ unfolding comments
 comments-agree loc [] = none-agree
 comments-agree {j} loc (x ∷ xs) = says-agree (comment-all (Still j) (still newline refl refl) (still tab refl refl) (λ s. still (text s) refl refl) (x .kind) (x .text) loc) ⨾ comments-agree loc xs
 
-newline-agree : {j : ℕ} (b : Bool) → Agree j (Combine.newlineIf b) (Combine.newlineIf b)
+newline-agree : {j : ℕ} (b : Bool) → Agree j (Combine.newlineIf b) (PlainCombine.newlineIf b)
 newline-agree b = when-agree b (own-agree newline refl refl)
 
 -- what a condition of list j tests
@@ -221,24 +237,29 @@ unfolding Combine.testOf
 testOf-tests true k = record { named = omega arith }
 testOf-tests false k = record { named = omega arith }
 
-either-agree : {j : ℕ} (t : Test) → Tests j t → {p q p′ q′ : Print} → Agree j p q → Agree j p′ q′ → Agree j (Combine.either t p p′) (Combine.either t q q′)
+testOf-same : (b : Bool) (k : ℕ) → PlainCombine.testOf b k ≡ Combine.testOf b k
+unfolding Combine.testOf PlainCombine.testOf
+testOf-same true k = refl
+testOf-same false k = refl
+
+either-agree : {j : ℕ} (t : Test) → Tests j t → {p q p′ q′ : Print} → Agree j p q → Agree j p′ q′ → Agree j (Combine.either t p p′) (PlainCombine.either t q q′)
 either-agree t b h g = say-agree (ifTest t) (record { stay = refl; below = b }) ⨾ h ⨾ own-agree elseItem refl refl ⨾ g ⨾ own-agree endIf refl refl
 
-onlyIf-agree : {j : ℕ} (t : Test) → Tests j t → {p q : Print} → Agree j p q → Agree j (Combine.onlyIf t p) (Combine.onlyIf t q)
+onlyIf-agree : {j : ℕ} (t : Test) → Tests j t → {p q : Print} → Agree j p q → Agree j (Combine.onlyIf t p) (PlainCombine.onlyIf t q)
 onlyIf-agree t b h = say-agree (ifTest t) (record { stay = refl; below = b }) ⨾ h ⨾ own-agree endIf refl refl
 
-grouped-agree : {j : ℕ} {p q : Print} → Agree j p q → Agree j (Combine.grouped p) (Combine.grouped q)
+grouped-agree : {j : ℕ} {p q : Print} → Agree j p q → Agree j (Combine.grouped p) (PlainCombine.grouped q)
 grouped-agree h = own-agree group refl refl ⨾ h ⨾ own-agree groupEnd refl refl
 
-comma-agree : {j : ℕ} (b : Bool) (t : Test) → Tests j t → Agree j (Combine.comma b t) (Combine.comma b t)
-unfolding Combine.comma
+comma-agree : {j : ℕ} (b : Bool) (t : Test) → Tests j t → Agree j (Combine.comma b t) (PlainCombine.comma b t)
+unfolding Combine.comma PlainCombine.comma
 comma-agree true t h = lit-agree ","
 comma-agree false t h = onlyIf-agree t h (lit-agree ",")
 
-separator-agree : {j : ℕ} (t : Test) → Tests j t → Agree j (Combine.separator t) (Combine.separator t)
+separator-agree : {j : ℕ} (t : Test) → Tests j t → Agree j (Combine.separator t) (PlainCombine.separator t)
 separator-agree t h = either-agree t h (own-agree newline refl refl) (own-agree spaceOrNewline refl refl)
 
-ending-agree : {j : ℕ} (e : Reading.Ending) → Agree j (Combine.ending e) (Combine.ending e)
+ending-agree : {j : ℕ} (e : Reading.Ending) → Agree j (Combine.ending e) (PlainCombine.ending e)
 ending-agree e = newline-agree (e .blankLine) ⨾ comments-agree endOfItems (e .trivia)
 
 cond-agree : {j : ℕ} (b : Bool) {p q p′ q′ : Print} → Agree j p q → Agree j p′ q′ → Agree j (cond b p p′) (cond b q q′)
@@ -247,10 +268,10 @@ cond-agree false h g = g
 
 -- a list whose body agrees
 run-agree : {j : ℕ} (a z : String) (many : Bool) (p q : Test → Print) → ((k : ℕ) (t : Test) → Tests k t → Agree k (p t) (q t))
-    → Agree j (Combine.bracketed a z λ k. let t = Combine.testOf many k in Print.shared k t (p t) none (lit " ")) (Combine.bracketed a z λ k. let t = Combine.testOf many k in Plain.twice k t (q t) none (lit " "))
+    → Agree j (Combine.bracketed a z λ k. let t = Combine.testOf many k in Print.shared k t (p t) none (lit " ")) (PlainCombine.bracketed a z λ k. let t = PlainCombine.testOf many k in Plain.twice k t (q t) none (lit " "))
 unfolding none says lit say
 run-agree a z many p q h = brackets-agree a z _ _ (λ k. let t = Combine.testOf many k in let b = testOf-tests many k in
-    shared-meets k t [] (text (ascii " ") ∷ []) b ∅ (text-still (ascii " ")) (h k t b))
+    rw (testOf-same many k) (shared-meets k t [] (text (ascii " ") ∷ []) b ∅ (text-still (ascii " ")) (h k t b)))
 
 then-meets : (k : ℕ) (p q : Print) {p′ q′ : Print} → Meets 2 0 k (p k) (q k) → Agree k p′ q′ → Meets 2 0 k ((p ⨟ p′) k) ((q ⨟ q′) k)
 unfolding _⨟_
@@ -259,29 +280,29 @@ then-meets k p q h g = next-meets h (g .at)
 signal-agree : {j : ℕ} (x : Signal) → Agree j (say (signal x)) (say (signal x))
 signal-agree x = let g = signal-sign x in own-agree (signal x) (g .stay) (g .unnamed)
 
-source-agree : {j : ℕ} (a b : Reading.Around) {p q : Print} → Agree j p q → Agree j (Print.sourceOf a b p) (Plain.whole a b q)
-unfolding Print.sourceOf Plain.whole
+source-agree : {j : ℕ} (a b : Reading.Around) {p q : Print} → Agree j p q → Agree j (Print.sourceOf a b p) (Plain.sourceOf a b q)
+unfolding Print.sourceOf Plain.sourceOf
 source-agree (Reading.foreignAt n) t h = stopped-agree n
 source-agree (Reading.trivia xs) (Reading.foreignAt n) h = stopped-agree n
 source-agree (Reading.trivia xs) (Reading.trivia ys) h = comments-agree aboveItem xs ⨾ h ⨾ own-agree newline refl refl ⨾ comments-agree endOfItems ys
 
 -- printings of parts that agree make printings of nodes that agree
 module _ (pr pr′ : ℕ → Print) (same : (n : ℕ) → Agree 0 (pr n) (pr′ n)) where
-  part-agree : {p q : Print} → Agree 0 p q → (o : Option Part) → Agree 0 (Print.partOr pr p o) (Plain.shown pr′ q o)
-  unfolding Print.partOr Plain.shown
+  part-agree : {p q : Print} → Agree 0 p q → (o : Option Part) → Agree 0 (Print.partOr pr p o) (Plain.partOr pr′ q o)
+  unfolding Print.partOr Plain.partOr
   part-agree h nothing = h
   part-agree h (some x) = same (x .number)
 
-  each-agree : (c : Class) (front : String) (ended : Bool) (xs : List Part) → Agree 0 (Print.eachOf pr c front ended xs) (Plain.allShown pr′ c front ended xs)
-  unfolding Print.eachOf Plain.allShown
+  each-agree : (c : Class) (front : String) (ended : Bool) (xs : List Part) → Agree 0 (Print.eachOf pr c front ended xs) (Plain.eachOf pr′ c front ended xs)
+  unfolding Print.eachOf Plain.eachOf
   each-agree c front ended [] = none-agree
   each-agree c front ended (x ∷ xs) =
       cond-agree (is c x)
       (when-agree (not (isNil (ascii front))) (lit-agree front) ⨾ same (x .number) ⨾ when-agree ended (lit-agree "," ⨾ own-agree newline refl refl) ⨾ each-agree c front ended xs)
       (each-agree c front ended xs)
 
-  what-agree : (xs : List Part) (w : What) → Agree 0 (Print.what pr xs w) (Plain.piece pr′ xs w)
-  unfolding Print.what Plain.piece
+  what-agree : (xs : List Part) (w : What) → Agree 0 (Print.what pr xs w) (Plain.what pr′ xs w)
+  unfolding Print.what Plain.what
   what-agree xs (txt a) = lit-agree a
   what-agree xs (bare x) = signal-agree x
   what-agree xs (part w missing) = part-agree (lit-agree missing) (nth (w .class) (w .place) xs)
@@ -289,40 +310,40 @@ module _ (pr pr′ : ℕ → Print) (same : (n : ℕ) → Agree 0 (pr n) (pr′ 
   what-agree xs (each c front ended) = each-agree c front ended xs
   what-agree xs plus = part-agree none-agree (plusOf xs)
 
-  row-agree : (xs : List Part) (ps : List Piece) → Agree 0 (Print.row pr xs ps) (Plain.plainRow pr′ xs ps)
-  unfolding Print.row Plain.plainRow
+  row-agree : (xs : List Part) (ps : List Piece) → Agree 0 (Print.row pr xs ps) (Plain.row pr′ xs ps)
+  unfolding Print.row Plain.row
   row-agree xs [] = none-agree
   row-agree xs (p ∷ ps) = when-agree (asked xs p) (what-agree xs (p .what)) ⨾ row-agree xs ps
 
-  module _ {j : ℕ} (f g : Bool → Print) (hf : (b : Bool) → Agree j (f b) (f b)) (hg : (b : Bool) → Agree j (g b) (g b)) where
-    children-agree : (cs : List Reading.Child) → Agree j (Print.children pr f g cs) (Plain.items pr′ f g cs)
-    unfolding Print.children Print.withComments Plain.items
+  module _ {j : ℕ} (f f′ g g′ : Bool → Print) (hf : (b : Bool) → Agree j (f b) (f′ b)) (hg : (b : Bool) → Agree j (g b) (g′ b)) where
+    children-agree : (cs : List Reading.Child) → Agree j (Print.children pr f g cs) (Plain.children pr′ f′ g′ cs)
+    unfolding Print.children Print.withComments Plain.children Plain.withComments
     children-agree [] = none-agree
     children-agree (c ∷ cs) =
         (newline-agree (c .blankLine) ⨾ comments-agree aboveItem (c .before) ⨾ later (same (c .value .number)) ⨾ hf (Reading.more cs) ⨾ comments-agree itemInline (c .inline))
         ⨾ hg (Reading.more cs) ⨾ children-agree cs
 
   list-agree : (empty a z : String) (r : Reading.Reading) → Agree 0 (Print.list pr empty a z r) (Plain.list pr′ empty a z r)
-  unfolding Print.list Print.indented Plain.list
+  unfolding Print.list Print.indented Plain.list Plain.indented
   list-agree empty a z (Reading.foreign n) = stopped-agree n
   list-agree empty a z (Reading.read cs e) = cond-agree (Reading.isEmpty cs e) (lit-agree empty)
       (run-agree a z (Reading.anyManyLines cs || e .blankLine) _ _ (λ k t b.
-      grouped-agree (grouped-agree (children-agree _ _ (λ m. comma-agree m t b) (λ m. separator-agree t b) cs) ⨾ ending-agree e)))
+      grouped-agree (grouped-agree (children-agree _ _ _ _ (λ m. comma-agree m t b) (λ m. separator-agree t b) cs) ⨾ ending-agree e)))
 
   arguments-agree : (r : Reading.Reading) → Agree 0 (Print.arguments pr r) (Plain.arguments pr′ r)
   unfolding none says say Print.arguments Plain.arguments
   arguments-agree (Reading.foreign n) = stopped-agree n
   arguments-agree (Reading.read cs e) = brackets-agree "(" ")" _ _ (λ k. let b : Tests k (lines (2 * k)) = record { named = omega arith } in
       then-meets k _ _ (shared-meets k (lines (2 * k)) (newline ∷ []) [] b (still newline refl refl ▹ ∅) ∅
-      (grouped-agree (children-agree _ _ (λ m. comma-agree m (lines (2 * k)) b) (λ m. when-agree m (separator-agree (lines (2 * k)) b)) cs))) (ending-agree e))
+      (grouped-agree (children-agree _ _ _ _ (λ m. comma-agree m (lines (2 * k)) b) (λ m. when-agree m (separator-agree (lines (2 * k)) b)) cs))) (ending-agree e))
 
   compBody-agree : (ms : List Reading.Child) (me : Reading.Ending) (r : Reading.Reading) → Agree 0 (Print.compBody pr ms me r) (Plain.compBody pr′ ms me r)
-  unfolding Print.compBody Print.indented Plain.compBody
+  unfolding Print.compBody Print.indented Plain.compBody Plain.indented
   compBody-agree ms me (Reading.foreign n) = stopped-agree n
   compBody-agree ms me (Reading.read cs e) =
       run-agree "{" "}" (Reading.anyManyLines ms || (Reading.anyManyLines cs || (me .blankLine || e .blankLine))) _ _ (λ k t b. grouped-agree (grouped-agree (
-      children-agree _ _ (λ m. onlyIf-agree t b (lit-agree ",")) (λ m. separator-agree t b) ms ⨾ newline-agree (me .blankLine)
-      ⨾ children-agree _ _ (λ m. none-agree) (λ m. separator-agree t b) cs) ⨾ ending-agree e))
+      children-agree _ _ _ _ (λ m. onlyIf-agree t b (lit-agree ",")) (λ m. separator-agree t b) ms ⨾ newline-agree (me .blankLine)
+      ⨾ children-agree _ _ _ _ (λ m. none-agree) (λ m. separator-agree t b) cs) ⨾ ending-agree e))
 
   compOf-agree : (xs : List Part) (r : Reading.Reading) → Agree 0 (Print.compOf pr xs r) (Plain.compOf pr′ xs r)
   unfolding Print.compOf Plain.compOf
@@ -334,10 +355,10 @@ module _ (pr pr′ : ℕ → Print) (same : (n : ℕ) → Agree 0 (pr n) (pr′ 
   comprehension-agree n xs nothing = stopped-agree n
   comprehension-agree n xs (some x) = compOf-agree xs (Reading.compMembers x xs)
 
-  binds-agree : (cs : List Reading.Child) (e : Reading.Ending) → Agree 0 (Print.manyBinds pr cs e) (Plain.binds pr′ cs e)
-  unfolding Print.manyBinds
+  binds-agree : (cs : List Reading.Child) (e : Reading.Ending) → Agree 0 (Print.manyBinds pr cs e) (Plain.manyBinds pr′ cs e)
+  unfolding Print.manyBinds Plain.manyBinds
   binds-agree cs e = lit-agree "local" ⨾ own-agree indent refl refl ⨾ own-agree newline refl refl
-      ⨾ children-agree _ _ (λ m. lit-agree ",") (λ m. own-agree newline refl refl) cs ⨾ ending-agree e ⨾ own-agree outdent refl refl
+      ⨾ children-agree _ _ _ _ (λ m. lit-agree ",") (λ m. own-agree newline refl refl) cs ⨾ ending-agree e ⨾ own-agree outdent refl refl
 
   local-agree : (r : Reading.Reading) → Agree 0 (Print.localOf pr r) (Plain.localOf pr′ r)
   unfolding Print.localOf Plain.localOf
@@ -346,23 +367,23 @@ module _ (pr pr′ : ℕ → Print) (same : (n : ℕ) → Agree 0 (pr n) (pr′ 
   local-agree (Reading.read (c ∷ []) e) = comments-agree aboveItem (c .before) ⨾ lit-agree "local " ⨾ same (c .value .number)
   local-agree (Reading.read (c ∷ d ∷ cs) e) = binds-agree (c ∷ d ∷ cs) e
 
-  values-agree : (cs : List Reading.Child) → Agree 0 (Print.values pr cs) (Plain.alone pr′ cs)
-  unfolding Print.values Plain.alone
+  values-agree : (cs : List Reading.Child) → Agree 0 (Print.values pr cs) (Plain.values pr′ cs)
+  unfolding Print.values Plain.values
   values-agree [] = none-agree
   values-agree (c ∷ cs) = same (c .value .number) ⨾ values-agree cs
 
-  valuesOf-agree : (r : Reading.Reading) → Agree 0 (Print.valuesOf pr r) (Plain.aloneOf pr′ r)
-  unfolding Print.valuesOf Plain.aloneOf
+  valuesOf-agree : (r : Reading.Reading) → Agree 0 (Print.valuesOf pr r) (Plain.valuesOf pr′ r)
+  unfolding Print.valuesOf Plain.valuesOf
   valuesOf-agree (Reading.foreign n) = stopped-agree n
   valuesOf-agree (Reading.read cs e) = values-agree cs
 
   expression-agree : (xs : List Part) (o : Option Part) → Agree 0 (Print.expression pr xs o) (Plain.expression pr′ xs o)
-  unfolding Print.expression
+  unfolding Print.expression Plain.expression
   expression-agree xs o =
       valuesOf-agree (Reading.between Class.Stmt nothing o nothing xs) ⨾ part-agree (lit-agree "/*missing ExprBase*/") o ⨾ valuesOf-agree (Reading.between Class.Suffix o nothing nothing xs)
 
-  element-agree : (k n : ℕ) (s below : List ℕ) (xs : List Part) → Agree 0 (Print.element pr k n s below xs) (Plain.node pr′ k n s below xs)
-  unfolding Print.element Plain.node
+  element-agree : (k n : ℕ) (s below : List ℕ) (xs : List Part) → Agree 0 (Print.element pr k n s below xs) (Plain.element pr′ k n s below xs)
+  unfolding Print.element Plain.element
   element-agree k n s below xs =
       cond-agree (leb 64 k) (own-agree (text s) refl refl)
       (cond-agree (eqb k 56) (own-agree (text below) refl refl)
@@ -374,12 +395,12 @@ module _ (pr pr′ : ℕ → Print) (same : (n : ℕ) → Agree 0 (pr n) (pr′ 
       (cond-agree (eqb k 47) (arguments-agree (Reading.enclosed Class.Arg Class.LParen Class.RParen xs))
       (row-agree xs (layout k)))))))))
 
-  file-agree : (xs : List Part) (o : Option Part) → Agree 0 (Print.source pr xs o) (Plain.file pr′ xs o)
-  unfolding Print.source
+  file-agree : (xs : List Part) (o : Option Part) → Agree 0 (Print.source pr xs o) (Plain.source pr′ xs o)
+  unfolding Print.source Plain.source
   file-agree xs o = source-agree (Reading.triviaBefore o xs) (Reading.triviaAfter o xs) (part-agree (lit-agree "/*missing Expr*/") o)
 
-prints-agree : (f : Forest) (n : ℕ) → Agree 0 (Print.prints f n) (Plain.nodes f n)
-unfolding Print.prints Plain.nodes
+prints-agree : (f : Forest) (n : ℕ) → Agree 0 (Print.prints f n) (Plain.prints f n)
+unfolding Print.prints Plain.prints
 prints-agree nil n = none-agree
 prints-agree (tree e kids rest) n =
     cond-agree (eqb n (e .number)) (element-agree _ _ (prints-agree kids) (e .kind) (e .number) (e .text) (texts kids) (parts kids)) (prints-agree rest n)

@@ -1,4 +1,4 @@
--- The examples A to L, computed.
+-- The examples A to L, computed, and `[1]` from its image to its listing.
 use mathlib.Core.Path.{_≡_, refl, ap}
 use mathlib.Core.Bool.{Bool, true, false≢true}
 use mathlib.Core.Option.{some}
@@ -24,8 +24,13 @@ use Rattle.plan.specs.Comments.{comments}
 use Rattle.printer.specs.Layout.{rows, pick}
 use Rattle.printer.specs.Combine.{comma, testOf, bracketed}
 use Rattle.printer.specs.Print.{shared, indented, partOr, what, row, withComments, children, list, values, valuesOf, expression, element, prints, sourceOf, source, sourceFile}
-use Rattle.formatter.specs.Answer.{Verdict, turnedAway, printed, fromPrinting, fromTests, verdict}
-use Rattle.formatter.specs.Examples.{Example, result, sameItems, gives, passes, examples, comment}
+use Rattle.items.specs.Lines.{digits, decimal, described, recordLines, kindNames}
+use Rattle.listing.specs.Listing.{headLine, listing}
+use Rattle.listing.specs.Examples.{oneItems}
+use Rattle.formatter.specs.Answer.{Verdict, turnedAway, printed, fromPrinting, fromTests, verdict, withRoom, withListing, ruling}
+use Rattle.formatter.specs.Program.{judged, printedOf, response}
+use Rattle.formatter.specs.Examples.{Example, result, sameItems, gives, passes, examples, comment, oneImage, oneListing}
+use Rattle.formatter.proofs.Responses.{blank-long}
 
 computed : all passes examples ≡ true
 unfolding examples all sameBytes words bytes any dropWhile dropEnd startsWith count sum flatten follows afterByte validFrom trimEnd trim textLines padding chars lead isWhite whiteSpace utf8 isPad _⨟_ nothing say says lit when withNumber openRun Comments.comment multiLine singleLine blockOf blockLines immediate common commonPadding unpadded tabbed oneLine onOneLine manyLines le16 le32 countN countB textsOf elements elementsOf forest texts parts kinds oneOf nthOf between pass step behind upTo newlinesBefore newlinesBack strict triviaBefore triviaAfter comments rows pick comma testOf bracketed shared indented partOr what row withComments children list values valuesOf expression element prints sourceOf source sourceFile wrongLength outOfLimits firstWhere unknownKind misplaced misplacedAfter firstMisplaced nodeWithText wrongSizes notUtf8 stringBlock misformed firstNameless tests firstRefusal refusal fromPrinting fromTests verdict
@@ -66,3 +71,15 @@ all-examples (x ∷ xs) (h ▹ r) = gives-true (result (x .source)) (x .expected
 -- every example prints what the paper says
 pub examples-hold : All (λ x. result (x .source) ≡ printed (x .expected)) examples
 examples-hold = all-examples examples (all-true passes examples computed)
+
+first-of : {A : Type 0} {P : A → Type 0} {x : A} {xs : List A} → All P (x ∷ xs) → P x
+first-of (h ▹ r) = h
+
+one-printed : verdict oneImage ≡ printed oneItems
+unfolding examples flatten
+one-printed = first-of examples-hold
+
+-- what the program prints of the image of `[1]`, byte for byte
+pub one-response : response oneImage ≡ oneListing
+unfolding response judged ruling withRoom withListing printedOf kindNames digits decimal described recordLines headLine listing bytes sum flatten
+one-response = rw (one-printed, blank-long, blank-long, blank-long)

@@ -22,7 +22,7 @@ use Rattle.formatter.specs.Program.{blank, judged, printedOf, response, 
 use lib.Seq.{take-at}
 use Rattle.formatter.specs.declared.program.Response.{Response}
 
-blank-long : (n : ℕ) → length (blank n) ≡ n
+pub blank-long : (n : ℕ) → length (blank n) ≡ n
 unfolding blank
 blank-long n = length-replicate n 0
 

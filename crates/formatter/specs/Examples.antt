@@ -1,4 +1,4 @@
--- Document 01, 'Twelve kept examples', A to L in one list, and the records of `[1]`.
+-- Document 01, 'Twelve kept examples', A to L in one list, and `[1]`, also from the bytes of its image to those of its listing.
 use mathlib.Core.Bool.{Bool, false, _&&_}
 use mathlib.Core.List.{List, [], _∷_, _++_, map, flatten}
 use Prim.Native.Nat.{ℕ, _*_, _/_, _%_}
@@ -10,6 +10,7 @@ use Rattle.items.specs.Records.{words, bytes}
 use Rattle.comments.specs.Comments
 use Rattle.comments.specs.Comments.{Location, aboveItem, itemInline}
 use Rattle.printer.specs.Print.{source}
+use Rattle.listing.specs.Examples.{oneItems}
 use Rattle.formatter.specs.Answer.{Verdict, turnedAway, printed, verdict}
 
 -- An element of a tree image: its kind, its level and its text.
@@ -92,17 +93,14 @@ separator w = ifTest w ∷ newline ∷ elseItem ∷ spaceOrNewline ∷ endIf ∷
 abbrev final : String → Test → List Item
 final s w = t s ∷ ifTest w ∷ t "," ∷ endIf ∷ separator w
 
--- the items of `[1]`
-abbrev pub one : List Item
-one = around (lines 0) (final "1" (lines 0))
-
 abbrev ex : String → Source → List Item → Example
 ex n s xs = record { name = n; source = s; expected = xs }
 
--- A to L, K twice, and `[1]`
+-- `[1]`, and A to L, K twice
 unfoldable pub examples : List Example
 examples =
-    ex "A" (comment 65 "/**/" aboveItem) []
+    ex "[1]" (array (number "1")) oneItems
+    ∷ ex "A" (comment 65 "/**/" aboveItem) []
     ∷ ex "B" (comment 65 "/***/" aboveItem) []
     ∷ ex "C" (comment 65 "/* pump */" aboveItem) (t "/* " ∷ t "pump" ∷ t " */" ∷ newline ∷ [])
     ∷ ex "D" (comment 65 "/* pump */" itemInline) (t " " ∷ t "/* " ∷ t "pump" ∷ t " */" ∷ [])
@@ -116,5 +114,27 @@ examples =
     ∷ ex "K, one newline" (array (number "1" ++ (token 94 3 "," ∷ token 64 3 "\n" ∷ number "2"))) (around always (t "1" ∷ t "," ∷ separator always ++ final "2" always))
     ∷ ex "L" (array (number "1" ++ (token 64 3 " " ∷ token 68 3 "# k\n" ∷ token 94 3 "," ∷ token 64 3 " " ∷ number "2")))
     (around always (t "1" ∷ t "," ∷ t " " ∷ t "# " ∷ t "k" ∷ separator always ++ final "2" always))
-    ∷ ex "[1]" (array (number "1")) one
     ∷ []
+
+-- the image of `[1]`, byte for byte: 8 elements, and 3 bytes of text
+abbrev pub oneImage : List ℕ
+oneImage =
+    8 ∷ 0 ∷ 0 ∷ 0
+    ∷ 1 ∷ 0 ∷ 0 ∷ 0 ∷ 0 ∷ 0 ∷ 0 ∷ 0
+    ∷ 2 ∷ 0 ∷ 1 ∷ 0 ∷ 0 ∷ 0 ∷ 0 ∷ 0
+    ∷ 10 ∷ 0 ∷ 2 ∷ 0 ∷ 0 ∷ 0 ∷ 0 ∷ 0
+    ∷ 98 ∷ 0 ∷ 3 ∷ 0 ∷ 1 ∷ 0 ∷ 0 ∷ 0
+    ∷ 2 ∷ 0 ∷ 3 ∷ 0 ∷ 0 ∷ 0 ∷ 0 ∷ 0
+    ∷ 8 ∷ 0 ∷ 4 ∷ 0 ∷ 0 ∷ 0 ∷ 0 ∷ 0
+    ∷ 87 ∷ 0 ∷ 5 ∷ 0 ∷ 1 ∷ 0 ∷ 0 ∷ 0
+    ∷ 99 ∷ 0 ∷ 3 ∷ 0 ∷ 1 ∷ 0 ∷ 0 ∷ 0
+    ∷ 3 ∷ 0 ∷ 0 ∷ 0
+    ∷ 91 ∷ 49 ∷ 93
+    ∷ []
+
+-- the 29 lines of its listing: 'For the tree of `[1]` without spaces'
+abbrev pub oneListing : List ℕ
+oneListing =
+    ascii "records 28 texts 5 runs 1 marks 2\n0 text 1 [\n1 mark 0\n2 if lines 0\n3 block\n4 newline\n5 run 0\n6 group\n7 group\n8 text 1 1\n"
+    ++ (ascii "9 if lines 0\n10 text 1 ,\n11 end-if\n12 if lines 0\n13 newline\n14 else\n15 space-or-newline\n16 end-if\n17 group-end\n18 group-end\n"
+    ++ ascii "19 run-end 0\n20 block-end\n21 else\n22 text 1  \n23 again 0\n24 end-if\n25 text 1 ]\n26 mark 1\n27 newline\n")

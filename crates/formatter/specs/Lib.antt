@@ -1,5 +1,6 @@
 -- What the calls from a tree image to print items promise: bodies put back, the plain printing, the answer and the lent buffers, what the program prints.
 pub mod PutBack
+pub mod PlainCombine
 pub mod Plain
 pub mod Answer
 pub mod Reply

@@ -11,10 +11,15 @@ pub record Body : Type 0 where
   pub number : ℕ
   pub items : List Item
 
--- What stands since the innermost open run began, what stood before each open run, the innermost first, and the runs closed so far, the last first.
+-- A run that has not ended yet, and what stood before it.
+pub record Open : Type 0 where
+  pub number : ℕ
+  pub before : List Item
+
+-- What stands since the innermost open run began, the open runs, the innermost first, and the runs closed so far, the last first.
 pub record State : Type 0 where
   pub out : List Item
-  pub outer : List (List Item)
+  pub outer : List Open
   pub bodies : List Body
 
 -- 'what stood between run k and its run-end, itself put back'
@@ -26,20 +31,23 @@ bodyOf k (b ∷ bs) = cond (eqb k (b .number)) (b .items) (bodyOf k bs)
 abbrev pub emit : List Item → State → State
 emit xs s = record { out = s .out ++ xs; outer = s .outer; bodies = s .bodies }
 
--- a run begins: '`run` .. fall away'
-abbrev pub opened : State → State
-opened s = record { out = []; outer = s .out ∷ s .outer; bodies = s .bodies }
+-- run k begins: '`run` .. fall away'
+abbrev pub opened : ℕ → State → State
+opened k s = record { out = []; outer = record { number = k; before = s .out } ∷ s .outer; bodies = s .bodies }
 
--- run k ends: '`run-end` fall away'
-unfoldable pub closed : ℕ → List (List Item) → State → State
+-- the run-end of run k: '`run-end` fall away'. It closes the innermost open run if that is run k ('run k and its run-end'), and no run if not.
+unfoldable pub closed : ℕ → List Open → State → State
 closed k [] s = s
-closed k (before ∷ outer) s = record { out = before ++ s .out; outer = outer; bodies = record { number = k; items = s .out } ∷ s .bodies }
+closed k (r ∷ outer) s =
+    cond (eqb k (r .number))
+    (record { out = r .before ++ s .out; outer = outer; bodies = record { number = r .number; items = s .out } ∷ s .bodies })
+    s
 
 -- one item more
 unfoldable pub put : Item → Role → State → State
 put x stays s = emit (x ∷ []) s
 put x marks s = emit (x ∷ []) s
-put x (opens k) s = opened s
+put x (opens k) s = opened k s
 put x (closes k) s = closed k (s .outer) s
 put x (repeats k) s = emit (bodyOf k (s .bodies)) s
 

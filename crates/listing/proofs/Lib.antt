@@ -1,6 +1,5 @@
 -- Laws that belong to no one function. Those of a `pub mod` are cited by other crates.
 mod Decoding
-mod Examples
 mod Head
 mod Items
 pub mod Listable

@@ -1,4 +1,4 @@
--- Small printings that the printing and the plain printing share: conditions, groups, commas, comments.
+-- Small printings that the printing is made of: conditions, groups, commas, comments.
 use mathlib.Core.Bool.{Bool, true, false}
 use Prim.Native.Nat.{ℕ, _+_, _*_}
 use Prim.Native.String.{String}
