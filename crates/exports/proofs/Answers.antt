@@ -1,11 +1,12 @@
 -- An answer from what the callees give.
-use mathlib.Core.Path.{_≡_}
+use mathlib.Core.Path.{_≡_, refl}
+use mathlib.Core.Bool.{false}
 use mathlib.Core.List.{List}
 use Prim.Native.Nat.{ℕ}
 use Rattle.items.specs.declared.Printed.{Printed}
-use Rattle.items.specs.declared.Printed.the-variants.{Done}
-use Rattle.items.specs.Item.{says}
-use Rattle.items.specs.Machine.{Prints, held, noCounts}
+use Rattle.items.specs.declared.Printed.the-variants.{Done, Full}
+use Rattle.items.specs.declared.Size.{Size}
+use Rattle.items.specs.Machine.{printing, seen, noSize, held, Says}
 use Rattle.comments.specs.Comments.{Location, comment}
 use Rattle.formatter.specs.declared.Answer.{Answer}
 use Rattle.formatter.specs.declared.ListAnswer.{ListAnswer}
@@ -13,13 +14,21 @@ use Rattle.numbers.specs.declared.refusal.Refusal.{Refusal}
 use Rattle.numbers.specs.Refusal.{numberOf}
 use Rattle.formatter.specs.Answer.{refused}
 use Rattle.formatter.specs.Reply as formatter
-use Rattle.exports.specs.Comment.{code, countsAfter, Printing}
+use Rattle.exports.specs.Comment.{recordsOf, textsOf, printedOf, code, countsAfter}
 use Rattle.exports.specs.Print.{Reports}
 use Rattle.exports.specs.declared.print.Report.{Report}
 
-pub comment-answered : (k : ℕ) (s : List ℕ) (loc place : Location) (start p : Printed) (rs ts cs rs′ ts′ cs′ : List ℕ) (r : ℕ) → place ≡ loc → start ≡ Done noCounts
-    → Prints (says (comment k s place)) (held rs ts start) (held rs′ ts′ p) → cs′ ≡ countsAfter cs p → r ≡ code p → Printing (says (comment k s loc)) rs ts cs rs′ ts′ cs′ r
-comment-answered k s loc place start p rs ts cs rs′ ts′ cs′ r e d h t a = record { printed = p; prints = rw (e, d) at h; counts = t; answered = a }
+pub comment-answered :
+    (k : ℕ) (s : List ℕ) (loc place : Location) (z : Size) (p : Printed) (rs ts cs rs′ ts′ cs′ : List ℕ) (r : ℕ) → place ≡ loc → z ≡ noSize false
+    → Says (comment k s place) (held rs ts (Done z)) (held rs′ ts′ p) → cs′ ≡ countsAfter cs p → r ≡ code p
+    → let o = printing (comment k s loc) (seen rs ts (Done (noSize false))) in
+    (r ≡ code (printedOf o)) × ((cs′ ≡ countsAfter cs (printedOf o)) × ((rs′ ≡ recordsOf o) × (ts′ ≡ textsOf o)))
+unfolding seen recordsOf textsOf printedOf
+comment-answered k s loc place z p rs ts cs rs′ ts′ cs′ r e d h t a = rw (← (rw (e, d) at (h .ran))) (go p t a)
+  where
+    go : (p : Printed) → cs′ ≡ countsAfter cs p → r ≡ code p → let o = seen rs′ ts′ p in (r ≡ code (printedOf o)) × ((cs′ ≡ countsAfter cs (printedOf o)) × ((rs′ ≡ recordsOf o) × (ts′ ≡ textsOf o)))
+    go (Done q) t a = (a, (t, (refl, refl)))
+    go Full t a = (a, (t, (refl, refl)))
 
 pub by-case : (r : Report) (a b : Answer) → a ≡ b → Reports r (formatter.reply b) → Reports r (formatter.reply a)
 by-case r a b h k = rw h k

@@ -3,15 +3,14 @@ pub mod print;
 
 use comments::CommentLocation;
 use items::Printed;
+use items::no_size;
 use numbers::refusal::number_of;
 use tree::Tested;
 ghost use mathlib.Core.Path.{_≡_};
-ghost use Rattle.items.specs.Item.{says};
-ghost use Rattle.comments.specs.Comments.{comment};
 ghost use Rattle.comments.specs.Place.{place};
 ghost use lib.Seq.{sets};
 ghost use Rattle.tree.specs.Answer.{said, answer};
-ghost use Rattle.exports.specs.Comment.{location, code, countsAfter, PrintingIn};
+ghost use Rattle.exports.specs.Comment.{location, commentIn, recordsOf, textsOf, printedOf, code, countsAfter};
 ghost use Rattle.exports.specs.Refusal.{number, firstValue, secondValue, bothValues};
 
 // The numbers of the places; any other number is the last of them, after all items.
@@ -22,9 +21,7 @@ const ITEM_INLINE: u32 = 1;
 // The answers.
 const DONE: u32 = 0;
 
-const STOPPED: u32 = 10;
-
-// A count no longer fits; no refusal has this number.
+// A number no longer fits; no refusal has this one.
 const FULL: u32 = 255;
 
 // The place with a number.
@@ -38,20 +35,19 @@ fn location_of(n: u32) -> CommentLocation
     }
 }
 
-// Writes the four counts of what was printed, and gives the answer.
+// Writes the four counts of a comment, which has no run and no mark, and gives the answer.
 fn tell(counts: &mut [u32; 4], p: Printed) -> u32
     ensures { λ r. ⌜ r ≡ code p ⌝ }
     ensures { λ _. ⌜ now (counts .exit) ≡ countsAfter (now (counts .entry)) p ⌝ }
 {
     match p {
-        Printed::Done(c) => {
-            counts[0] = c.records;
-            counts[1] = c.texts;
-            counts[2] = c.runs;
-            counts[3] = c.marks;
+        Printed::Done(d) => {
+            counts[0] = d.records;
+            counts[1] = d.texts;
+            counts[2] = 0;
+            counts[3] = 0;
             DONE
         }
-        Printed::Stopped(_) => STOPPED,
         Printed::Full => FULL,
     }
 }
@@ -66,10 +62,14 @@ pub extern "C" fn tungvesk_comment(
     texts: &mut [u8],
     counts: &mut [u32; 4],
 ) -> u32
-    ensures { λ r. ⌜ PrintingIn records texts counts r (says (comment kind (now (s .entry)) (location at))) ⌝ }
+    ensures { λ r. ⌜ r ≡ code (printedOf (commentIn records texts kind s at)) ⌝ }
+    ensures { λ _. ⌜ now (counts .exit) ≡ countsAfter (now (counts .entry)) (printedOf (commentIn records texts kind s at)) ⌝ }
+    ensures { λ _. ⌜ now (records .exit) ≡ recordsOf (commentIn records texts kind s at) ⌝ }
+    ensures { λ _. ⌜ now (texts .exit) ≡ textsOf (commentIn records texts kind s at) ⌝ }
 {
     let loc = location_of(at);
-    let p = comments::format_comment(records, texts, kind, s, loc, items::start());
+    let none = Printed::Done(no_size(false));
+    let p = comments::format_comment(records, texts, kind, s, loc, none);
     tell(counts, p)
 }
 

@@ -13,14 +13,12 @@ use Rattle.items.specs.Machine.{State, Outcome, full, reached, printable
 all-append : (xs ys : List Item) (σ : State) → emitAll (xs ++ ys) σ ≡ printing ys (emitAll xs σ)
 unfolding emitAll printing
 all-append [] ys σ = refl
-all-append (x ∷ xs) ys σ = step (printable (σ .size) x) (all-append xs ys (emitted x σ))
+all-append (x ∷ xs) ys σ = step (printable (σ .size) x) _ _ (all-append xs ys (emitted x σ))
   where
-    stuck : Outcome
-    stuck = full (σ .records) (σ .texts)
-
-    step : (b : Bool) → emitAll (xs ++ ys) (emitted x σ) ≡ printing ys (emitAll xs (emitted x σ)) → cond b (emitAll (xs ++ ys) (emitted x σ)) stuck ≡ printing ys (cond b (emitAll xs (emitted x σ)) stuck)
-    step true h = h
-    step false h = refl
+    step : (b : Bool) (rs ts : List ℕ) → emitAll (xs ++ ys) (emitted x σ) ≡ printing ys (emitAll xs (emitted x σ))
+        → cond b (emitAll (xs ++ ys) (emitted x σ)) (full rs ts) ≡ printing ys (cond b (emitAll xs (emitted x σ)) (full rs ts))
+    step true rs ts h = h
+    step false rs ts h = refl
 
 -- some items and then others make of an outcome what the others make of what the first make of it
 printing-append : (xs ys : List Item) (o : Outcome) → printing (xs ++ ys) o ≡ printing ys (printing xs o)

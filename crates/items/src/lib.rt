@@ -314,8 +314,8 @@ pub fn count_plain(kind: u32, n: u32, p: Size) -> Size
     requires { ⌜ allFit (plainItem kind n ∷ []) p ≡ true ⌝ }
     ensures { λ r. ⌜ r ≡ sized (plainItem kind n ∷ []) p ⌝ }
 {
-    let e = plain_entry(kind, n);
-    let line = line_if(p.listed, p.records, e.kind, e.first as u32, e.second as u32);
+    let x = plain_entry(kind, n);
+    let line = line_if(p.listed, p.records, x.kind, x.first as u32, x.second as u32);
     advanced(p, 0, line as u32)
 }
 

@@ -15,8 +15,6 @@ tell-spec =
     (λ c. search needs)  -- element-write-counts-3
     (λ c. search needs)  -- element-write-counts-4
     (λ c. search needs)  -- enum-told
-    (λ c. search needs)  -- enum-told-2
     (λ c. rw (c .before .p .given .1) (refl, refl))  -- returns
     (λ c. search needs)  -- returns-2
-    (λ c. search needs)  -- returns-3
     )

@@ -8,7 +8,7 @@ tungvesk-comment-spec =
     tie.close
     (tie.spec
     (λ c κs. search needs)  -- location-of-requires
-    (λ c κs. search needs)  -- start-requires
+    (λ c κs. search needs)  -- no-size-requires
     (λ c κs. search needs)  -- format-comment-requires
     (λ c κs. search needs)  -- tell-requires
     (λ c. search needs)  -- same-length
