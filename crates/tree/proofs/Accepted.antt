@@ -11,11 +11,11 @@ use borrow.Author.Tests.{eqb-true, eqb-false, ltb-false, not-false}
 use Rattle.text.specs.Basic.{sum}
 use Rattle.tree.specs.Tree.{countN, countB, elementsOf}
 use Rattle.tree.specs.Image.{startIn}
-use Rattle.tree.specs.Refusal.{Refusal, refusedAt, refusedIf, tests, firstRefusal, refusal, wrongLength, outOfLimits, firstWhere, unknownKind, firstMisplaced, nodeWithText, orSum, wrongSizes, notUtf8, stringBlock, misformed, firstNameless}
+use Rattle.tree.specs.Refusal.{Refusal, refusedAt, refusedIf, tests, firstRefusal, refusal, wrongLength, outOfLimits, firstWhere, unknownKind, firstMisplaced, nodeWithText, orSum, wrongSizes, notUtf8, misformed, firstNameless}
 use Rattle.tree.specs.Answer.{answered, answer, passed}
 use Rattle.tree.proofs.Elements.{sizes-all}
 
--- The image's numbers are in their limits, and no test finds an element.
+-- The image's numbers are in their limits, and no test finds an element. Test 7 is left out: no proof asks for it.
 pub record Accepted (image : List ℕ) : Type 0 where
   pub long : length image ≡ 8 + 8 * countN image + countB image
   pub not-empty : 0 < countN image
@@ -26,7 +26,6 @@ pub record Accepted (image : List ℕ) : Type 0 where
   pub nodes : firstWhere nodeWithText (elementsOf image) ≡ none
   pub sizes : startIn image (countN image) ≡ countB image
   pub encoded : firstWhere notUtf8 (elementsOf image) ≡ none
-  pub blocks : firstWhere stringBlock (elementsOf image) ≡ none
   pub comments : firstWhere misformed (elementsOf image) ≡ none
   pub names : firstNameless (elementsOf image) ≡ none
 
@@ -81,7 +80,7 @@ accepted image h =
     let (t₄, r₄) = all-none _ _ r₃ in
     let (t₅, r₅) = all-none _ _ r₄ in
     let (t₆, r₆) = all-none _ _ r₅ in
-    let (t₇, r₇) = all-none _ _ r₆ in
+    let (_, r₇) = all-none _ _ r₆ in
     let (t₈, r₈) = all-none _ _ r₇ in
     let (t₉, r₉) = all-none _ _ r₈ in
     let m = measured image (if-none 1 _ t₁) (if-none 2 _ t₂) in
@@ -96,7 +95,6 @@ accepted image h =
       nodes = u;
       sizes = sizes-all image ∙ eqb-true _ _ s;
       encoded = at-none 6 _ t₆;
-      blocks = at-none 7 _ t₇;
       comments = at-none 8 _ t₈;
       names = at-none 9 _ t₉;
     }

@@ -5,6 +5,7 @@ mod Asciis
 pub mod Children
 mod Classes
 mod Cleaning
+mod CommentForms
 mod Comments
 pub mod Elements
 mod Ending
