@@ -27,9 +27,11 @@ pub fn put_all(buffer: &mut [u8], at: usize, s: &[u8]) -> usize
     at + bytes::copy(s, &mut buffer[at..])
 }
 
-// Reads a file into a buffer, as far as there is room, and says how many bytes that are. Of these no contract can say more.
+// Reads a file into a buffer, as far as there is room, and says how many bytes that are. Which bytes no contract can say, nor what a read
+// leaves behind them.
 pub fn load(path: &[u8], buffer: &mut [u8]) -> usize
     ensures { λ r. ⌜ r ≤ length (now (buffer .exit)) ⌝ }
+    ensures { λ _. ⌜ length (now (buffer .exit)) ≡ length (now (buffer .entry)) ⌝ }
 {
     let fd = os::open_read(path);
     if fd < 0 {

@@ -15,6 +15,8 @@ use items::Printed;
 use items::RECORD;
 use items::Size;
 use items::no_size;
+ghost use mathlib.Core.Path.{_≡_};
+ghost use Prim.Native.Nat.{_+_, _*_, _%_};
 
 // A case has seven fields: the token's kind, head and piece, how often the piece comes, the tail, and what is expected above
 // an item and inline.
@@ -34,7 +36,10 @@ const LARGE: usize = 31990;
 
 const TOKEN: usize = 32768;
 
-fn mixed(sum: u64, w: u32) -> u64 {
+// One word more in a checksum.
+fn mixed(sum: u64, w: u32) -> u64
+    ensures { λ r. ⌜ r ≡ ((sum % 4294967291) * 65599 + w) % 4294967291 ⌝ }
+{
     ((sum % MODULUS) * FACTOR + w as u64) % MODULUS
 }
 

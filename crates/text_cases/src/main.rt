@@ -7,6 +7,8 @@ use cases::line;
 use cases::load;
 use cases::nth_field;
 use cases::number;
+ghost use mathlib.Core.Path.{_≡_};
+ghost use Prim.Native.Nat.{_+_, _%_, _^_};
 
 // A vector has four fields: its operation, two texts, and what is expected.
 const FIELDS: usize = 4;
@@ -42,12 +44,16 @@ struct Tally {
     line_feeds: u64,
 }
 
-fn add(n: u64, m: usize) -> u64 {
+fn add(n: u64, m: usize) -> u64
+    ensures { λ r. ⌜ r ≡ (n + m) % 2 ^ 64 ⌝ }
+{
     std::num::wrapping_add_u64(n, m as u64)
 }
 
 impl Tally {
-    fn new() -> Self {
+    fn new() -> Self
+        ensures { λ r. ⌜ r ≡ record { valid = 0; trimmed = 0; «trimmed_end» = 0; padding = 0; «line_feeds» = 0 } ⌝ }
+    {
         Tally {
             valid: 0,
             trimmed: 0,

@@ -81,7 +81,7 @@ pub fn header_at(s: &[u8], at: usize) -> Header
 }
 
 // The number of two bytes that stand in s.
-pub fn short_in(s: &[u8], at: usize) -> u16
+pub(crate) fn short_in(s: &[u8], at: usize) -> u16
     requires { ⌜ at + 1 < length (now s) ⌝ }
     ensures { λ r. ⌜ r ≡ le16 (now (s .entry)) at ⌝ }
 {
@@ -89,7 +89,7 @@ pub fn short_in(s: &[u8], at: usize) -> u16
 }
 
 // The number of four bytes that stand in s.
-pub fn number_in(s: &[u8], at: usize) -> u32
+pub(crate) fn number_in(s: &[u8], at: usize) -> u32
     requires { ⌜ at + 3 < length (now s) ⌝ }
     ensures { λ r. ⌜ r ≡ le32 (now (s .entry)) at ⌝ }
 {
@@ -97,7 +97,7 @@ pub fn number_in(s: &[u8], at: usize) -> u32
 }
 
 // The element whose eight bytes stand in s.
-pub fn header_in(s: &[u8], at: usize) -> Header
+pub(crate) fn header_in(s: &[u8], at: usize) -> Header
     requires { ⌜ at + 7 < length (now s) ⌝ }
     ensures { λ r. ⌜ r ≡ headerAt (now (s .entry)) at ⌝ }
 {

@@ -103,7 +103,7 @@ fn starts_right(image: &[u8]) -> bool
 }
 
 // No element offends. Asked of an image that passed the tests 1 and 2.
-pub fn is_clean(image: &[u8]) -> bool
+pub(crate) fn is_clean(image: &[u8]) -> bool
     requires { ⌜ wrongLength (now image) ≡ false ⌝ }
     requires { ⌜ outOfLimits (now image) ≡ false ⌝ }
     ensures { λ r. ⌜ (r ≡ true → refusal (now (image .entry)) ≡ none) ⌝ }

@@ -58,7 +58,7 @@ pub fn size_of(image: &[u8], i: u32) -> u32
 }
 
 // N.
-pub fn count_in(image: &[u8]) -> u32
+pub(crate) fn count_in(image: &[u8]) -> u32
     requires { ⌜ 4 ≤ length (now image) ⌝ }
     ensures { λ r. ⌜ r ≡ countN (now (image .entry)) ⌝ }
 {
@@ -66,28 +66,28 @@ pub fn count_in(image: &[u8]) -> u32
 }
 
 // Element i.
-pub fn element_in(image: &[u8], i: u32) -> Header
+pub(crate) fn element_in(image: &[u8], i: u32) -> Header
     requires { ⌜ 12 + 8 * i ≤ length (now image) ⌝ }
     ensures { λ r. ⌜ r ≡ record { kind = kindIn (now (image .entry)) i; level = levelIn (now (image .entry)) i; size = sizeIn (now (image .entry)) i } ⌝ }
 {
     bytes::header_in(image, place_of(i))
 }
 
-pub fn kind_in(image: &[u8], i: u32) -> u32
+pub(crate) fn kind_in(image: &[u8], i: u32) -> u32
     requires { ⌜ 12 + 8 * i ≤ length (now image) ⌝ }
     ensures { λ r. ⌜ r ≡ kindIn (now (image .entry)) i ⌝ }
 {
     bytes::short_in(image, place_of(i)) as u32
 }
 
-pub fn level_in(image: &[u8], i: u32) -> u16
+pub(crate) fn level_in(image: &[u8], i: u32) -> u16
     requires { ⌜ 12 + 8 * i ≤ length (now image) ⌝ }
     ensures { λ r. ⌜ r ≡ levelIn (now (image .entry)) i ⌝ }
 {
     bytes::short_in(image, place_of(i) + LEVEL)
 }
 
-pub fn size_in(image: &[u8], i: u32) -> u32
+pub(crate) fn size_in(image: &[u8], i: u32) -> u32
     requires { ⌜ 12 + 8 * i ≤ length (now image) ⌝ }
     ensures { λ r. ⌜ r ≡ sizeIn (now (image .entry)) i ⌝ }
 {
@@ -103,7 +103,7 @@ fn texts_of(image: &[u8]) -> &[u8]
 }
 
 // The text of element i, which starts at place at of the texts.
-pub fn text_of(image: &[u8], i: u32, at: usize) -> &[u8]
+pub(crate) fn text_of(image: &[u8], i: u32, at: usize) -> &[u8]
     requires { ⌜ at ≡ startIn (now image) i ⌝ }
     ensures { λ r. ⌜ now r ≡ textIn (now (image .entry)) i ⌝ }
 {

@@ -23,7 +23,7 @@ pub fn new<'a>(image: &'a [u8]) -> Reader<'a>
 }
 
 // The reader n bytes further on.
-pub fn skip<'a>(r: Reader<'a>, n: usize) -> Reader<'a>
+pub(crate) fn skip<'a>(r: Reader<'a>, n: usize) -> Reader<'a>
     requires { ⌜ r .at + n < 2 ^ 64 ⌝ }
     ensures { λ q. ⌜ q ≡ record { image = r .entry .image; at = r .entry .at + n } ⌝ }
 {

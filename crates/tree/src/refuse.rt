@@ -264,7 +264,7 @@ fn lacks_ident(image: &[u8], i: u32) -> bool
 }
 
 // Element i is a Name without an identifier.
-pub fn nameless_at(image: &[u8], i: u32) -> bool
+pub(crate) fn nameless_at(image: &[u8], i: u32) -> bool
     requires { ⌜ i < countN (now image) ⌝ }
     requires { ⌜ 8 + 8 * countN (now image) ≤ length (now image) ⌝ }
     ensures { λ r. ⌜ r ≡ namelessIn (now (image .entry)) i ⌝ }
@@ -276,7 +276,7 @@ pub fn nameless_at(image: &[u8], i: u32) -> bool
 }
 
 // 9: the first Name without an identifier.
-pub fn first_nameless(image: &[u8]) -> Found
+pub(crate) fn first_nameless(image: &[u8]) -> Found
     requires { ⌜ 8 + 8 * countN (now image) ≤ length (now image) ⌝ }
     ensures { λ r. ⌜ found r ≡ firstNameless (elementsOf (now (image .entry))) ⌝ }
 {

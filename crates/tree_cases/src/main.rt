@@ -17,7 +17,8 @@ use numbers::refusal::number_of;
 use tree::Found;
 use tree::Tested;
 use tree::class::Kinds;
-ghost use mathlib.Core.Bool.{true};
+ghost use mathlib.Core.Path.{_≡_};
+ghost use lib.ListN.{getD};
 ghost use Rattle.tree.specs.Index.{Indexed};
 
 // A vector has four fields: its operation, an image, what else is asked, and what is expected.
@@ -100,7 +101,12 @@ fn is_table(table: &[u32], want: &[u8]) -> bool {
     true
 }
 
-fn wanted(args: &[u8]) -> Kinds {
+// The kinds that are asked for.
+fn wanted(args: &[u8]) -> Kinds
+    ensures { λ r. ⌜ r .lo ≡ getD (now (args .entry)) 2 0 ⌝ }
+    ensures { λ r. ⌜ r .hi ≡ getD (now (args .entry)) 3 0 ⌝ }
+    ensures { λ r. ⌜ r .but ≡ getD (now (args .entry)) 4 0 ⌝ }
+{
     Kinds {
         lo: byte(args, 2) as u32,
         hi: byte(args, 3) as u32,
