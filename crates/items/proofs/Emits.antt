@@ -122,6 +122,10 @@ pub line-taken : (l : Bool) {m n : ℕ} → not l ≡ false → m ≡ n → m �
 line-taken true h e = e
 line-taken false h e = absurd (false≢true (sym h))
 
+-- where records are not listed, no line is counted
+pub unlisted : (k a b : ℕ) (p : Size) → p .listed ≡ false → 0 ≡ cond (p .listed) (lineLength (p .records) k a b) 0
+unlisted k a b p h = rw h refl
+
 module _ (x : Item) (p : Size) where
   abbrev at : Entry
   at = entryOf (p .texts) x

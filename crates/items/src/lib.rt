@@ -4,7 +4,7 @@ pub mod names;
 
 use numbers::Mark;
 ghost use mathlib.Core.Path.{_≡_};
-ghost use mathlib.Core.Bool.{true, cond};
+ghost use mathlib.Core.Bool.{true, false, cond};
 ghost use mathlib.Core.List.{[], _∷_};
 ghost use Prim.Native.Nat.{max, _+_, _<_, _≤_, _^_};
 ghost use lib.ListN.{length, set};
@@ -274,27 +274,25 @@ fn line_if(listed: bool, n: u32, kind: u32, first: u32, second: u32) -> u64
     lines::line_length(n, kind, first, second)
 }
 
-// Puts a text, also one of no bytes, behind what was put. Its numbers must fit.
+// Puts a text, also one of no bytes, behind what was put. Its numbers must fit; no line is counted, so records are not listed.
 pub fn put_text(records: &mut [u32], texts: &mut [u8], s: &[u8], p: Size) -> Size
+    requires { ⌜ p .listed ≡ false ⌝ }
     requires { ⌜ allFit (text (now s) ∷ []) p ≡ true ⌝ }
     ensures { λ r. ⌜ PutsIn records texts p r (text (now (s .entry)) ∷ []) ⌝ }
 {
-    let e = text_entry(p.texts, s.len());
-    let line = line_if(p.listed, p.records, TEXT, p.texts, s.len() as u32);
     put_bytes(texts, p.texts as usize, s);
-    put_entry(records, p, e, line as u32)
+    put_entry(records, p, text_entry(p.texts, s.len()), 0)
 }
 
-// Puts an item without a text, by its kind and its number. Its numbers must fit.
+// Puts an item without a text, by its kind and its number. Its numbers must fit, and no line is counted.
 pub fn put_plain(records: &mut [u32], texts: &mut [u8], kind: u32, n: u32, p: Size) -> Size
+    requires { ⌜ p .listed ≡ false ⌝ }
     requires { ⌜ 2 ≤ kind ⌝ }
     requires { ⌜ kind ≤ 18 ⌝ }
     requires { ⌜ allFit (plainItem kind n ∷ []) p ≡ true ⌝ }
     ensures { λ r. ⌜ PutsIn records texts p r (plainItem kind n ∷ []) ⌝ }
 {
-    let e = plain_entry(kind, n);
-    let line = line_if(p.listed, p.records, e.kind, e.first as u32, e.second as u32);
-    put_entry(records, p, e, line as u32)
+    put_entry(records, p, plain_entry(kind, n), 0)
 }
 
 // The size after a text. Its numbers must fit.
@@ -314,8 +312,8 @@ pub fn count_plain(kind: u32, n: u32, p: Size) -> Size
     requires { ⌜ allFit (plainItem kind n ∷ []) p ≡ true ⌝ }
     ensures { λ r. ⌜ r ≡ sized (plainItem kind n ∷ []) p ⌝ }
 {
-    let x = plain_entry(kind, n);
-    let line = line_if(p.listed, p.records, x.kind, x.first as u32, x.second as u32);
+    let e = plain_entry(kind, n);
+    let line = line_if(p.listed, p.records, e.kind, e.first as u32, e.second as u32);
     advanced(p, 0, line as u32)
 }
 
