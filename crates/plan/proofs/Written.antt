@@ -66,11 +66,8 @@ module _ (s : Source) (t : ℕ) (loc : Location) {k : ℕ} {ys : List ℕ} {rs t
     (f : allFit (note s t loc) z ≡ true)
     (g : p ≡ Done z)
     (h : Says (comment k ys loc) (held rs ts p) (held rs′ ts′ r)) where
-  -- whether records are listed is kept
-  pub note-puts : {d : Size} → r ≡ Done d → Puts (note s t loc) rs ts z rs′ ts′ (record { records = d .records; texts = d .texts; lines = d .lines; listed = z .listed })
-  note-puts e =
-      let k = said-puts (note s t loc) f g (rw (i, j) at h) e in
-      record { records = k .records; texts = k .texts; size = ap (λ (d : Size). record { records = d .records; texts = d .texts; lines = d .lines; listed = z .listed }) (k .size) }
+  pub note-puts : {d : Size} → r ≡ Done d → Puts (note s t loc) rs ts z rs′ ts′ d
+  note-puts e = said-puts (note s t loc) f g (rw (i, j) at h) e
 
   -- it comes to its end
   pub note-never : {A : Type 0} → r ≡ Full → A

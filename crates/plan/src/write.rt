@@ -58,13 +58,7 @@ fn put_note(
     let Printed::Done(d) = q else {
         return p;
     };
-    // Whether records are listed stays what it was, which the compiler sees only so.
-    Size {
-        records: d.records,
-        texts: d.texts,
-        lines: d.lines,
-        listed: p.listed,
-    }
+    d
 }
 
 // Writes an operation; the formatter's own texts are lent.
