@@ -3,7 +3,7 @@
 use oracle::{
     generate::{Options, generate},
     image::{self, Element},
-    print::{Printed, comment, print},
+    print::{Mode, Printed, comment, print},
     records::Records,
 };
 
@@ -16,7 +16,7 @@ fn element(kind: u16, level: u16, text: &str) -> Element {
 }
 
 fn printed(elements: &[Element]) -> Records {
-    match print(elements) {
+    match print(elements, Mode::Plain) {
         Printed::Items(records) => records,
         Printed::Panicked { message, .. } => panic!("{message}"),
     }

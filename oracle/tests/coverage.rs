@@ -4,7 +4,7 @@ use oracle::{
     DEFAULT_COUNT, DEFAULT_SEED, Digest,
     generate::{Options, generate},
     image,
-    print::{deep, print},
+    print::{Mode, deep, print},
 };
 
 #[test]
@@ -13,7 +13,8 @@ fn the_digest_is_that_of_the_report() {
         let mut digest = Digest::default();
         for number in 0..DEFAULT_COUNT {
             let bytes = generate(DEFAULT_SEED, number, Options::default()).image;
-            digest.add(&print(&image::read(&bytes).expect("a valid image")));
+            let elements = image::read(&bytes).expect("a valid image");
+            digest.add(&print(&elements, Mode::Plain));
         }
         digest.to_string()
     });

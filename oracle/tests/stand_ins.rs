@@ -4,14 +4,14 @@
 use jrsonnet_formatter::{FormatOptions, format};
 use oracle::{
     describe,
-    print::{Printed, print},
+    print::{Mode, Printed, print},
 };
 
 #[test]
 fn a_string_block_stops() {
     let described = "SourceFile\n  Expr\n    ExprString\n      StringBlock \"|||\\n a\\n|||\"\n";
     let elements = describe::read(described).expect("a tree");
-    let Printed::Panicked { message, .. } = print(&elements) else {
+    let Printed::Panicked { message, .. } = print(&elements, Mode::Plain) else {
         panic!("a string block was printed");
     };
     assert_eq!(message, "string blocks are not read by the oracle");

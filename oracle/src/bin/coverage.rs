@@ -8,7 +8,7 @@ use oracle::{
     generate::{Family, Options, generate},
     image::{self, Element},
     kinds,
-    print::{Printed, deep, print},
+    print::{Mode, Printed, deep, print},
 };
 
 fn main() {
@@ -47,7 +47,7 @@ struct Sums {
 impl Run {
     fn add(&mut self, family: Family, bytes: &[u8]) {
         let elements = image::read(bytes).expect("a valid image");
-        let printed = print(&elements);
+        let printed = print(&elements, Mode::Plain);
         self.digest.add(&printed);
         let sums = &mut self.families[family as usize];
         sums.images += 1;
@@ -86,7 +86,10 @@ impl Run {
         println!("| family | images | stop | share | elements | bytes | records |");
         println!("|---|--:|--:|--:|--:|--:|--:|");
         let mut all = Sums::default();
-        for ((_, name, _), sums) in Family::ALL.iter().zip(&self.families) {
+        for ((_, name, share), sums) in Family::ALL.iter().zip(&self.families) {
+            if *share == 0 {
+                continue;
+            }
             sums.report(name);
             all.images += sums.images;
             all.stopped += sums.stopped;

@@ -18,7 +18,7 @@ use oracle::{
         Options, edges, generate,
     },
     image::{self, Element},
-    print::deep,
+    print::{Mode, deep},
 };
 
 const SEED: u64 = 2026;
@@ -86,20 +86,20 @@ impl Vectors {
         for path in paths {
             let text = fs::read_to_string(path).expect("a case");
             let image = image::write(&describe::read(&text).expect("a tree"));
-            let answer = answer(&image, Answers::Refusals);
+            let answer = answer(&image, Answers::Refusals, Mode::Plain);
             self.add("by hand", image, &answer);
         }
     }
 
     fn add_limits(&mut self) {
         for (_, image) in edges::edges() {
-            let answer = answer(&image, Answers::Refusals);
+            let answer = answer(&image, Answers::Refusals, Mode::Plain);
             if image.len() + answer.len() <= AT_LIMIT {
                 self.add("at a limit", image, &answer);
             }
         }
         for image in no_elements().into_iter().chain(too_much()) {
-            let answer = answer(&image, Answers::Refusals);
+            let answer = answer(&image, Answers::Refusals, Mode::Plain);
             self.add("at a limit", image, &answer);
         }
     }
@@ -108,7 +108,7 @@ impl Vectors {
         let mut left = KEPT;
         for number in 0..COUNT {
             let sample = generate(SEED, number, Options::default());
-            let answer = answer(&sample.image, Answers::Refusals);
+            let answer = answer(&sample.image, Answers::Refusals, Mode::Plain);
             let size = sample.image.len() + answer.len();
             if matches!(sample.family, Deep | Wide) && refusal(&answer) > 0 {
                 continue;
@@ -133,7 +133,7 @@ impl Vectors {
         let mut left = [count; 10];
         for number in 0..COUNT {
             let image = generate(SEED + 1, number, options).image;
-            let answer = answer(&image, Answers::Refusals);
+            let answer = answer(&image, Answers::Refusals, Mode::Plain);
             let refusal = refusal(&answer) as usize;
             let wanted = (1..=9).contains(&refusal) && left[refusal] > 0;
             if wanted && image.len() + answer.len() <= size && self.add("damaged", image, &answer) {

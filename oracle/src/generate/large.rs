@@ -142,7 +142,7 @@ pub fn large() -> Vec<(&'static str, Vec<u8>)> {
 #[cfg(test)]
 mod tests {
     use super::*;
-    use crate::print::{Printed, deep as on_deep_stack, print};
+    use crate::print::{Mode, Printed, deep as on_deep_stack, print};
 
     #[test]
     fn shapes_are_as_large_as_they_can_be() {
@@ -160,7 +160,10 @@ mod tests {
                 let length: usize = elements.iter().map(|e| e.text.len()).sum();
                 let long = name.ends_with("bytes");
                 assert_eq!(length > MAX_BYTES - 1_000, long, "{name}: {length}");
-                assert!(matches!(print(&elements), Printed::Items(_)), "{name}");
+                assert!(
+                    matches!(print(&elements, Mode::Plain), Printed::Items(_)),
+                    "{name}"
+                );
             }
         });
     }

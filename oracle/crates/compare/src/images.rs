@@ -1,12 +1,12 @@
-//! Whole images: refusals 1 to 12, the records with their four counts, and
-//! every cell of the lent buffers.
+//! Whole images in both modes: refusals 1 to 12, the records with their four
+//! counts, and every cell of the lent buffers.
 
 use std::time::{Duration, Instant};
 
 use oracle::{
     image::{self, Element, Fault},
     limits,
-    print::{Printed, print},
+    print::{Mode, Printed, kept, print},
     records::Records,
 };
 
@@ -21,11 +21,17 @@ use crate::{
 pub struct Images {
     buffers: Buffers,
     pub tests: Report,
-    pub answers: Report,
+    /// The oracle against itself.
+    pub refusals: Report,
+    /// Of each mode.
+    pub answers: [Report; 2],
     /// Images by refusal 1 to 9, 0 for none.
     pub by_refusal: [u64; 10],
-    /// Calls by answer: printed, then refusals 1 to 12.
-    pub by_answer: [u64; 13],
+    /// Calls of each mode by answer: printed, then refusals 1 to 12.
+    pub by_answer: [[u64; 13]; 2],
+    /// Images in which the keeping mode prints more: in any place, above a statement,
+    /// after one, and before a base.
+    pub keeping: [u64; 4],
 }
 
 impl Default for Images {
@@ -33,11 +39,16 @@ impl Default for Images {
         Self {
             buffers: Buffers::default(),
             tests: Report::new("refusals 1 to 9"),
-            answers: Report::new(
-                "images where the room suffices or is short, refusals 1 to 12 and records",
-            ),
+            refusals: Report::new("refusals 1 to 10 of the oracle in both modes"),
+            answers: Mode::BOTH.map(|mode| {
+                Report::new(format!(
+                    "{} mode: images where the room suffices or is short, refusals 1 to 12 and records",
+                    mode.name()
+                ))
+            }),
             by_refusal: [0; 10],
-            by_answer: [0; 13],
+            by_answer: [[0; 13]; 2],
+            keeping: [0; 4],
         }
     }
 }
@@ -49,10 +60,13 @@ pub fn tested(bytes: &[u8]) -> Result<Vec<Element>, Fault> {
     limits::texts(&elements).map_or(Ok(elements), Err)
 }
 
-/// The records of an image by the original, or the number of the refusal and its
+/// The records of an image by the oracle, or the number of the refusal and its
 /// element.
-pub fn printed(elements: Result<Vec<Element>, Fault>) -> Result<Records, (u32, usize)> {
-    match elements.map(|elements| print(&elements)) {
+pub fn printed(
+    elements: &Result<Vec<Element>, Fault>,
+    mode: Mode,
+) -> Result<Records, (u32, usize)> {
+    match elements.as_ref().map(|elements| print(elements, mode)) {
         Ok(Printed::Items(records)) => Ok(records),
         Ok(Printed::Panicked { element, .. }) => Err((10, element)),
         Err(fault) => Err((fault.number, fault.element)),
@@ -92,24 +106,51 @@ fn short(number: usize, records: &Records) -> Option<(Room, u32)> {
 }
 
 impl Images {
-    /// Compares one image: its tests, the call where the room suffices, and one
-    /// where it does not.
+    /// Compares one image: its tests, and in each mode the call where the room
+    /// suffices, and one where it does not.
     pub fn compare(&mut self, number: usize, bytes: &[u8]) {
         let elements = tested(bytes);
         self.test(number, bytes, &elements);
-        match printed(elements) {
-            Ok(records) => {
-                let room = enough(number, &records);
-                self.call(number, bytes, room, Answer::Printed(&records));
-                if let Some((room, refusal)) = short(number, &records) {
-                    self.call(number, bytes, room, Answer::Refused(refusal, 0));
+        let both = Mode::BOTH.map(|mode| printed(&elements, mode));
+        self.same_refusal(number, bytes, &both);
+        for (mode, printed) in Mode::BOTH.into_iter().zip(both) {
+            match printed {
+                Ok(records) => {
+                    let room = enough(number, &records);
+                    self.call(number, bytes, mode, room, Answer::Printed(&records));
+                    if let Some((room, refusal)) = short(number, &records) {
+                        self.call(number, bytes, mode, room, Answer::Refused(refusal, 0));
+                    }
+                }
+                Err((refusal, element)) => {
+                    // What is refused leaves the room as it is.
+                    let room = enough(number, &Records::default());
+                    self.call(number, bytes, mode, room, Answer::Refused(refusal, element));
                 }
             }
-            Err((refusal, element)) => {
-                // What is refused leaves the room as it is.
-                let room = enough(number, &Records::default());
-                self.call(number, bytes, room, Answer::Refused(refusal, element));
-            }
+        }
+    }
+
+    /// Whether the oracle refuses an image in both modes by the same number and
+    /// element, or in neither; counts what the keeping mode, printed last, adds.
+    fn same_refusal(
+        &mut self,
+        number: usize,
+        bytes: &[u8],
+        both: &[Result<Records, (u32, usize)>; 2],
+    ) {
+        let [plain, keeping] = both.each_ref().map(|printed| printed.as_ref().err());
+        if plain == keeping {
+            self.refusals.same();
+        } else {
+            self.refusals.differs(bytes.len(), number, || {
+                format!("{plain:?} and {keeping:?}, for\n{}", shown(bytes))
+            });
+        }
+        if keeping.is_none() {
+            let [above, after, before] = kept().map(|items| items > 0);
+            let met = [above || after || before, above, after, before];
+            add(&mut self.keeping, &met.map(u64::from));
         }
     }
 
@@ -130,14 +171,15 @@ impl Images {
         });
     }
 
-    fn call(&mut self, number: usize, bytes: &[u8], room: Room, wanted: Answer) {
-        self.by_answer[match wanted {
+    fn call(&mut self, number: usize, bytes: &[u8], mode: Mode, room: Room, wanted: Answer) {
+        self.by_answer[mode as usize][match wanted {
             Answer::Printed(_) => 0,
             Answer::Refused(number, _) => number as usize,
         }] += 1;
-        match self.buffers.print(bytes, room, wanted) {
-            Ok(()) => self.answers.same(),
-            Err(fault) => self.answers.differs(bytes.len(), number, || {
+        let report = &mut self.answers[mode as usize];
+        match self.buffers.print(bytes, mode, room, wanted) {
+            Ok(()) => report.same(),
+            Err(fault) => report.differs(bytes.len(), number, || {
                 format!("in {room:?}: {fault}, for\n{}", shown(bytes))
             }),
         }
@@ -146,14 +188,21 @@ impl Images {
     /// Adds what another thread compared.
     pub fn add(&mut self, other: Self) {
         self.tests.add(other.tests);
-        self.answers.add(other.answers);
-        let add = |sum: &mut [u64], more: &[u64]| {
-            for (n, m) in sum.iter_mut().zip(more) {
-                *n += m;
-            }
-        };
+        self.refusals.add(other.refusals);
+        for (sum, more) in self.answers.iter_mut().zip(other.answers) {
+            sum.add(more);
+        }
         add(&mut self.by_refusal, &other.by_refusal);
-        add(&mut self.by_answer, &other.by_answer);
+        let sum = self.by_answer.as_flattened_mut();
+        add(sum, other.by_answer.as_flattened());
+        add(&mut self.keeping, &other.keeping);
+    }
+}
+
+/// Adds counts to counts.
+pub fn add(sum: &mut [u64], more: &[u64]) {
+    for (n, m) in sum.iter_mut().zip(more) {
+        *n += m;
     }
 }
 
@@ -181,11 +230,11 @@ pub fn compare(inputs: &Inputs, seed: u64) -> Images {
         comparing += start.elapsed();
         parts.into_iter().for_each(|part| sum.add(part));
     }
-    let calls: u64 = sum.by_answer.iter().sum();
+    let calls: u64 = sum.by_answer.as_flattened().iter().sum();
     let rate = |count: usize, time: Duration| count as f64 / time.as_secs_f64();
     println!(
-        "seed {seed}: {} images, {calls} calls; on {} threads, with the original's printing, {:.0} \
-         images and {:.0} calls a second; with the making of the images {:.0} images",
+        "seed {seed}: {} images, {calls} calls in both modes; on {} threads, with the oracle's \
+         printing, {:.0} images and {:.0} calls a second; with the making of the images {:.0} images",
         inputs.len(),
         threads::cores(),
         rate(inputs.len(), comparing),
@@ -193,9 +242,15 @@ pub fn compare(inputs: &Inputs, seed: u64) -> Images {
         rate(inputs.len(), making + comparing),
     );
     println!("images by refusal, from none to 9: {:?}", sum.by_refusal);
+    for (mode, by_answer) in Mode::BOTH.into_iter().zip(sum.by_answer) {
+        println!(
+            "{} mode: calls by answer, printed and then refusals 1 to 12: {by_answer:?}",
+            mode.name()
+        );
+    }
     println!(
-        "calls by answer, printed and then refusals 1 to 12: {:?}",
-        sum.by_answer
+        "keeping mode: images with more items, above a statement, after one, before a base: {:?}",
+        sum.keeping
     );
     sum
 }

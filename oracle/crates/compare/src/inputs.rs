@@ -7,7 +7,8 @@ use oracle::{
 };
 
 /// So many images of a seed, as many of the next seed of which half are damaged,
-/// those at the limits, and a few whose plans fill the library's first array.
+/// half as many full of comments around statements, those at the limits, and a few
+/// whose plans fill the library's first array.
 pub struct Inputs {
     seed: u64,
     count: usize,
@@ -19,7 +20,8 @@ impl Inputs {
         Self {
             seed,
             count,
-            at_limits: edges::edges()
+            at_limits: [edges::edges(), edges::kept_edges()]
+                .concat()
                 .into_iter()
                 .map(|(_, bytes)| bytes)
                 .chain(edges::dense_images())
@@ -28,24 +30,32 @@ impl Inputs {
     }
 
     pub fn len(&self) -> usize {
-        2 * self.count + self.at_limits.len()
+        self.generated() + self.at_limits.len()
     }
 
-    /// How many of them, from the first, are images as they were generated.
+    /// How many of them, from the first, were generated.
+    fn generated(&self) -> usize {
+        2 * self.count + self.count / 2
+    }
+
+    /// How many of them, from the first, are images of all families as they were
+    /// generated.
     pub fn undamaged(&self) -> usize {
         self.count
     }
 
     pub fn image(&self, number: usize) -> Vec<u8> {
-        if let Some(edge) = number.checked_sub(2 * self.count) {
+        if let Some(edge) = number.checked_sub(self.generated()) {
             return self.at_limits[edge].clone();
         }
-        let damaged = number >= self.count;
+        // Which of the three: of all families, damaged, statements.
+        let sort = number / self.count;
         let options = Options {
-            damaged,
+            damaged: sort == 1,
+            statements: sort == 2,
             ..Options::default()
         };
-        let seed = self.seed + u64::from(damaged);
+        let seed = self.seed + u64::from(options.damaged);
         generate(seed, (number % self.count) as u64, options).image
     }
 }

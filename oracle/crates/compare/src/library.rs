@@ -3,7 +3,7 @@
 
 use std::fmt;
 
-use oracle::records::Records;
+use oracle::{print::Mode, records::Records};
 
 use crate::cells::Cells;
 
@@ -23,6 +23,7 @@ unsafe extern "C" {
     fn tungvesk_print(
         image: *const u8,
         image_len: usize,
+        mode: u32,
         records: *mut u32,
         records_len: usize,
         texts: *mut u8,
@@ -32,6 +33,7 @@ unsafe extern "C" {
     fn tungvesk_list(
         image: *const u8,
         image_len: usize,
+        mode: u32,
         records: *mut u32,
         records_len: usize,
         texts: *mut u8,
@@ -51,6 +53,17 @@ pub fn refusal(image: &[u8]) -> [u32; 3] {
     [number, values[0], values[1]]
 }
 
+/// The number of a mode.
+pub fn number(mode: Mode) -> u32 {
+    match mode {
+        Mode::Plain => 0,
+        Mode::Keeping => 1,
+    }
+}
+
+/// What a call answers to a number that is no mode.
+const NO_MODE: u32 = 254;
+
 /// What a call is to answer to an image: its records, or the number of a refusal
 /// and its element.
 #[derive(Clone, Copy)]
@@ -58,6 +71,9 @@ pub enum Answer<'r> {
     Printed(&'r Records),
     Refused(u32, usize),
 }
+
+/// What is left alone.
+const NOTHING: Answer<'static> = Answer::Refused(0, 0);
 
 impl Answer<'_> {
     /// The number and the five values of the call.
@@ -168,7 +184,7 @@ impl Buffers {
     }
 
     /// The call by itself: the number and the five values.
-    pub fn call(&mut self, image: &[u8], room: Room) -> (u32, [u64; 5]) {
+    pub fn call(&mut self, image: &[u8], mode: u32, room: Room) -> (u32, [u64; 5]) {
         let mut values = [u64::from(FILL); 5];
         // The pointers and lengths are those of slices, and of cells that are
         // lent, which live until the call ends; no two of them overlap.
@@ -176,6 +192,7 @@ impl Buffers {
             tungvesk_print(
                 image.as_ptr(),
                 image.len(),
+                mode,
                 self.records.lend(room.words),
                 room.words,
                 self.texts.lend(room.bytes),
@@ -186,9 +203,37 @@ impl Buffers {
         (number, values)
     }
 
+    /// The call that writes the listing too: the number and the six values.
+    fn call_list(&mut self, image: &[u8], mode: u32, room: Room) -> (u32, [u64; 6]) {
+        let mut values = [u64::from(FILL); 6];
+        // The pointers and lengths are those of slices, and of cells that are
+        // lent, which live until the call ends; no two of them overlap.
+        let number = unsafe {
+            tungvesk_list(
+                image.as_ptr(),
+                image.len(),
+                mode,
+                self.records.lend(room.words),
+                room.words,
+                self.texts.lend(room.bytes),
+                room.bytes,
+                self.listing.lend(room.listing),
+                room.listing,
+                &mut values,
+            )
+        };
+        (number, values)
+    }
+
     /// Compares the answer to an image, and every cell.
-    pub fn print(&mut self, image: &[u8], room: Room, wanted: Answer) -> Result<(), String> {
-        let ours = self.call(image, room);
+    pub fn print(
+        &mut self,
+        image: &[u8],
+        mode: Mode,
+        room: Room,
+        wanted: Answer,
+    ) -> Result<(), String> {
+        let ours = self.call(image, number(mode), room);
         let cells = self.compare(room, wanted);
         same(ours, wanted.values())?;
         cells
@@ -199,31 +244,32 @@ impl Buffers {
     pub fn list(
         &mut self,
         image: &[u8],
+        mode: Mode,
         room: Room,
         wanted: Answer,
         listing: &[u8],
     ) -> Result<(), String> {
-        let mut values = [u64::from(FILL); 6];
-        // The pointers and lengths are those of slices, and of cells that are
-        // lent, which live until the call ends; no two of them overlap.
-        let number = unsafe {
-            tungvesk_list(
-                image.as_ptr(),
-                image.len(),
-                self.records.lend(room.words),
-                room.words,
-                self.texts.lend(room.bytes),
-                room.bytes,
-                self.listing.lend(room.listing),
-                room.listing,
-                &mut values,
-            )
-        };
+        let ours = self.call_list(image, number(mode), room);
         let cells = self.compare(room, wanted);
         let lines = self.listing.compare(room.listing, listing);
         let (expected, [a, b, c, d, element]) = wanted.values();
         let length = listing.len() as u64;
-        same((number, values), (expected, [a, b, c, d, length, element]))?;
+        same(ours, (expected, [a, b, c, d, length, element]))?;
+        cells?;
+        lines.map_err(|fault| format!("listing: {fault}"))
+    }
+
+    /// Compares what both calls do with a number that is no mode: nothing, but for
+    /// their answer.
+    pub fn other_mode(&mut self, image: &[u8], mode: u32, room: Room) -> Result<(), String> {
+        let printed = self.call(image, mode, room);
+        let cells = self.compare(room, NOTHING);
+        same(printed, (NO_MODE, [u64::from(FILL); 5]))?;
+        cells?;
+        let listed = self.call_list(image, mode, room);
+        let cells = self.compare(room, NOTHING);
+        let lines = self.listing.compare(room.listing, &[]);
+        same(listed, (NO_MODE, [u64::from(FILL); 6]))?;
         cells?;
         lines.map_err(|fault| format!("listing: {fault}"))
     }

@@ -1,12 +1,12 @@
-//! Listings, by the call that writes the records too: refusals 1 to 13, the five
-//! counts, and every cell of the three buffers.
+//! Listings in both modes, by the call that writes the records too: refusals 1 to
+//! 13, the five counts, and every cell of the three buffers.
 
 use std::time::Instant;
 
-use oracle::records::Records;
+use oracle::{print::Mode, records::Records};
 
 use crate::{
-    images::{MORE, enough, printed, tested},
+    images::{MORE, add, enough, printed, tested},
     inputs::{Inputs, shown},
     library::{Answer, Buffers, Room},
     report::Report,
@@ -16,17 +16,23 @@ use crate::{
 /// What a thread has compared.
 struct Listings {
     buffers: Buffers,
-    report: Report,
-    /// Calls by answer: listed, then refusals 1 to 13.
-    by_answer: [u64; 14],
+    /// Of each mode.
+    reports: [Report; 2],
+    /// Calls of each mode by answer: listed, then refusals 1 to 13.
+    by_answer: [[u64; 14]; 2],
 }
 
 impl Default for Listings {
     fn default() -> Self {
         Self {
             buffers: Buffers::default(),
-            report: Report::new("listings where the room suffices or is short, refusals 1 to 13"),
-            by_answer: [0; 14],
+            reports: Mode::BOTH.map(|mode| {
+                Report::new(format!(
+                    "{} mode: listings where the room suffices or is short, refusals 1 to 13",
+                    mode.name()
+                ))
+            }),
+            by_answer: [[0; 14]; 2],
         }
     }
 }
@@ -51,9 +57,22 @@ fn short(number: usize, records: &Records, listing: &[u8]) -> Option<(Room, u32)
 }
 
 impl Listings {
-    /// Compares one image where the room suffices, and perhaps where it does not.
+    /// Compares one image in both modes.
     fn compare(&mut self, number: usize, bytes: &[u8]) {
-        let records = printed(tested(bytes));
+        let elements = tested(bytes);
+        for mode in Mode::BOTH {
+            self.compare_in(mode, number, bytes, printed(&elements, mode));
+        }
+    }
+
+    /// Where the room suffices, and perhaps where it does not.
+    fn compare_in(
+        &mut self,
+        mode: Mode,
+        number: usize,
+        bytes: &[u8],
+        records: Result<Records, (u32, usize)>,
+    ) {
         let listing = records.as_ref().map_or(vec![], Records::listing);
         let room = |records: &Records| Room {
             listing: listing.len() + MORE * (number % 2),
@@ -62,26 +81,36 @@ impl Listings {
         match &records {
             Ok(records) => {
                 let wanted = Answer::Printed(records);
-                self.call(number, bytes, room(records), wanted, &listing);
+                self.call((number, mode), bytes, room(records), wanted, &listing);
                 if let Some((room, refusal)) = short(number, records, &listing) {
-                    self.call(number, bytes, room, Answer::Refused(refusal, 0), &[]);
+                    let wanted = Answer::Refused(refusal, 0);
+                    self.call((number, mode), bytes, room, wanted, &[]);
                 }
             }
             Err((refusal, element)) => {
                 let wanted = Answer::Refused(*refusal, *element);
-                self.call(number, bytes, room(&Records::default()), wanted, &[]);
+                let room = room(&Records::default());
+                self.call((number, mode), bytes, room, wanted, &[]);
             }
         }
     }
 
-    fn call(&mut self, number: usize, bytes: &[u8], room: Room, wanted: Answer, listing: &[u8]) {
-        self.by_answer[match wanted {
+    fn call(
+        &mut self,
+        (number, mode): (usize, Mode),
+        bytes: &[u8],
+        room: Room,
+        wanted: Answer,
+        listing: &[u8],
+    ) {
+        self.by_answer[mode as usize][match wanted {
             Answer::Printed(_) => 0,
             Answer::Refused(number, _) => number as usize,
         }] += 1;
-        match self.buffers.list(bytes, room, wanted, listing) {
-            Ok(()) => self.report.same(),
-            Err(fault) => self.report.differs(bytes.len(), number, || {
+        let report = &mut self.reports[mode as usize];
+        match self.buffers.list(bytes, mode, room, wanted, listing) {
+            Ok(()) => report.same(),
+            Err(fault) => report.differs(bytes.len(), number, || {
                 format!("in {room:?}: {fault}, for\n{}", shown(bytes))
             }),
         }
@@ -89,8 +118,8 @@ impl Listings {
 }
 
 /// Compares the listings of all images of a run and shows how fast. In the time
-/// are the making of the images, the original's printing and its listings.
-pub fn compare(inputs: &Inputs) -> Report {
+/// are the making of the images, the oracle's printing and its listings.
+pub fn compare(inputs: &Inputs) -> [Report; 2] {
     let start = Instant::now();
     let parts = threads::share(inputs.len(), |listings: &mut Listings, number| {
         listings.compare(number, &inputs.image(number));
@@ -98,14 +127,18 @@ pub fn compare(inputs: &Inputs) -> Report {
     let rate = inputs.len() as f64 / start.elapsed().as_secs_f64();
     let mut sum = Listings::default();
     for part in parts {
-        sum.report.add(part.report);
-        for (n, m) in sum.by_answer.iter_mut().zip(part.by_answer) {
-            *n += m;
+        for (sum, more) in sum.reports.iter_mut().zip(part.reports) {
+            sum.add(more);
         }
+        let sum = sum.by_answer.as_flattened_mut();
+        add(sum, part.by_answer.as_flattened());
     }
-    println!(
-        "listings by answer, listed and then refusals 1 to 13: {:?}, {rate:.0} images a second",
-        sum.by_answer
-    );
-    sum.report
+    for (mode, by_answer) in Mode::BOTH.into_iter().zip(sum.by_answer) {
+        println!(
+            "{} mode: listings by answer, listed and then refusals 1 to 13: {by_answer:?}",
+            mode.name()
+        );
+    }
+    println!("listings of both modes: {rate:.0} images a second");
+    sum.reports
 }

@@ -1,6 +1,7 @@
-//! `compare [SEED [COUNT]]` holds the library against the original, in one
-//! process. It prints what was compared and the smallest input that differs.
-//! `compare --speed` times both instead.
+//! `compare [SEED [COUNT]]` holds the library against the original, and in the
+//! keeping mode against its changed copy, in one process. It prints what was
+//! compared and the smallest input that differs. `compare --speed` times the
+//! library and the original instead.
 
 use std::process::ExitCode;
 
@@ -19,6 +20,8 @@ mod inputs;
 mod library;
 #[cfg(library)]
 mod listings;
+#[cfg(library)]
+mod modes;
 #[cfg_attr(not(library), allow(dead_code))]
 mod report;
 #[cfg(library)]
@@ -71,13 +74,13 @@ fn main() -> ExitCode {
 fn run(seed: u64, count: usize) -> Vec<Report> {
     let inputs = inputs::Inputs::new(seed, count);
     let images = images::compare(&inputs, seed);
-    vec![
-        images.tests,
-        images.answers,
-        listings::compare(&inputs),
-        comments::of_images(&inputs),
-        comments::exhaustive(),
-    ]
+    let mut reports = vec![images.tests, images.refusals];
+    reports.extend(images.answers);
+    reports.extend(listings::compare(&inputs));
+    reports.push(modes::compare(&inputs));
+    reports.push(comments::of_images(&inputs));
+    reports.push(comments::exhaustive());
+    reports
 }
 
 #[cfg(not(library))]
@@ -97,7 +100,7 @@ mod tests {
         not(library),
         ignore = "no libexports.a: `rt staticlib exports` writes it"
     )]
-    fn the_library_gives_what_the_original_gives() {
+    fn the_library_gives_what_the_oracle_gives() {
         let reports = deep(|| run(DEFAULT_SEED, 1_000));
         assert!(!reports.is_empty(), "nothing was compared");
         for report in reports {

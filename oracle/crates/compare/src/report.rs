@@ -4,7 +4,7 @@ use std::fmt;
 
 /// Of the inputs that differ, the smallest with what differs.
 pub struct Report {
-    name: &'static str,
+    name: String,
     compared: u64,
     differing: u64,
     smallest: Option<Difference>,
@@ -17,9 +17,9 @@ struct Difference {
 }
 
 impl Report {
-    pub fn new(name: &'static str) -> Self {
+    pub fn new(name: impl Into<String>) -> Self {
         Self {
-            name,
+            name: name.into(),
             compared: 0,
             differing: 0,
             smallest: None,

@@ -2,7 +2,7 @@
 //! generated images and on small ones. The library is timed from the image to the
 //! records in the lent buffers, so with all tests, once with just enough room and
 //! once with room for all that an image may print; the original from a tree that
-//! stands to its items.
+//! stands to its items. All in the plain mode.
 
 use std::time::{Duration, Instant};
 
@@ -10,7 +10,7 @@ use oracle::{
     DEFAULT_SEED,
     generate::{Family, MAX_BYTES, MAX_ELEMENTS, Options, Sample, generate, large::large},
     image,
-    print::{self, Printed},
+    print::{self, Mode, Printed},
 };
 
 use crate::library::{self, Answer, Buffers, Room};
@@ -35,13 +35,13 @@ impl Image {
     /// Compares what the library prints in both rooms.
     fn new(name: &str, bytes: Vec<u8>, buffers: &mut Buffers) -> Self {
         let elements = image::read(&bytes).expect("a valid image");
-        let Printed::Items(wanted) = print::print(&elements) else {
+        let Printed::Items(wanted) = print::print(&elements, Mode::Plain) else {
             panic!("{name}: the original stops");
         };
         let exact = Room::of(&wanted);
         let ample = Room::ample(elements.len(), bytes.len() - 8 - 8 * elements.len());
         for room in [exact, ample] {
-            let compared = buffers.print(&bytes, room, Answer::Printed(&wanted));
+            let compared = buffers.print(&bytes, Mode::Plain, room, Answer::Printed(&wanted));
             assert_eq!(compared, Ok(()), "{name}");
         }
         let records = wanted.records.len();
@@ -102,7 +102,7 @@ impl Row {
         let buffers = &mut self.buffers;
         let mut call = |image: &Image, room| {
             let start = Instant::now();
-            let (number, _) = buffers.call(&image.bytes, room);
+            let (number, _) = buffers.call(&image.bytes, library::number(Mode::Plain), room);
             let time = start.elapsed();
             assert_eq!(number, 0, "{}", self.name);
             time
@@ -128,8 +128,9 @@ fn generated() -> impl Iterator<Item = Sample> {
     (0..)
         .map(|number| generate(DEFAULT_SEED, number, Options::default()))
         .filter(|sample| {
-            image::read(&sample.image)
-                .is_ok_and(|elements| matches!(print::print(&elements), Printed::Items(_)))
+            image::read(&sample.image).is_ok_and(|elements| {
+                matches!(print::print(&elements, Mode::Plain), Printed::Items(_))
+            })
         })
 }
 
