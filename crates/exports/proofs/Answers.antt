@@ -1,6 +1,7 @@
 -- An answer from what the callees give.
-use mathlib.Core.Path.{_≡_, refl}
+use mathlib.Core.Path.{_≡_, refl, sym, ap, _∙_}
 use mathlib.Core.Bool.{false}
+use mathlib.Core.Option.{Option, none, some}
 use mathlib.Core.List.{List}
 use Prim.Native.Nat.{ℕ}
 use Rattle.items.specs.declared.Printed.{Printed}
@@ -15,7 +16,10 @@ use Rattle.numbers.specs.Refusal.{numberOf}
 use Rattle.formatter.specs.Answer.{refused}
 use Rattle.formatter.specs.Reply as formatter
 use Rattle.exports.specs.Comment.{recordsOf, textsOf, printedOf, code, countsAfter}
-use Rattle.exports.specs.Print.{Reports}
+use Rattle.numbers.specs.declared.mode.Mode.{Mode}
+use Rattle.exports.specs.Print.{chosen, Reports}
+use Rattle.exports.specs.declared.print.Chosen.{Chosen}
+use Rattle.exports.specs.declared.print.Chosen.the-variants.{Known, Unknown}
 use Rattle.exports.specs.declared.print.Report.{Report}
 
 pub comment-answered :
@@ -38,3 +42,11 @@ by-list-case r a b h k = rw h k
 
 pub by-number : (r : Report) (n : ℕ) (f : Refusal) → n ≡ numberOf (f .reason) → Reports r (refused n (f .element .0)) → Reports r (formatter.refusedFor f)
 by-number r n f h k = rw h at k
+
+-- the mode by the case of what was found
+module _ {r : Chosen} {o : Option Mode} (h : chosen r ≡ o) where
+  pub known : {m : Mode} → r ≡ Known m → o ≡ some m
+  known e = sym h ∙ ap chosen e
+
+  pub unknown : r ≡ Unknown → o ≡ none
+  unknown e = sym h ∙ ap chosen e

@@ -3,8 +3,25 @@ use mathlib.Core.Path.{_≡_}
 use mathlib.Core.Option.{Option, none, some}
 use mathlib.Core.List.{List, [], _∷_}
 use Prim.Native.Nat.{ℕ}
+use Rattle.numbers.specs.declared.mode.Mode.{Mode}
 use Rattle.formatter.specs.Answer.{Answer, refused, done}
+use Rattle.exports.specs.declared.print.Chosen.{Chosen}
+use Rattle.exports.specs.declared.print.Chosen.the-variants.{Known, Unknown}
 use Rattle.exports.specs.declared.print.Report.{Report}
+
+-- the mode that the code has found by its number, if any
+abbrev pub chosen : Chosen → Option Mode
+chosen (Known m) = some m
+chosen Unknown = none
+
+-- what a call in a mode gives, or x where its number is that of no mode
+unfoldable pub byMode : {A : Type 0} → Option Mode → A → (Mode → A) → A
+byMode none x f = x
+byMode (some m) x f = f m
+
+-- the answer to a number that no mode has; no refusal has this one
+abbrev pub unknownMode : ℕ
+unknownMode = 254
 
 -- document 01's number of the refusal, 0 where there is none
 unfoldable pub number : Answer → ℕ

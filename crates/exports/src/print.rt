@@ -2,6 +2,9 @@
 use formatter::Answer;
 use formatter::ListAnswer;
 use items::Count;
+use numbers::mode::KEEPING;
+use numbers::mode::Mode;
+use numbers::mode::PLAIN;
 use numbers::refusal::Refusal;
 use numbers::refusal::number_of;
 ghost use mathlib.Core.Path.{_≡_};
@@ -9,7 +12,27 @@ ghost use mathlib.Core.Option.{none};
 ghost use lib.Seq.{sets};
 ghost use Rattle.formatter.specs.Calls.{answerIn, recordsIn, textsIn, listingIn, listed};
 ghost use Rattle.formatter.specs.Reply.{refusedFor, reply, replyListed};
-ghost use Rattle.exports.specs.Print.{number, values, valuesListed, Reports};
+ghost use Rattle.numbers.specs.Mode.{modeOf};
+ghost use Rattle.exports.specs.Print.{chosen, byMode, unknownMode, number, values, valuesListed, Reports};
+
+// The answer to a number that no mode has; no refusal has this one.
+const UNKNOWN_MODE: u32 = 254;
+
+// The mode with a number, or that no mode has it.
+enum Chosen {
+    Known(Mode),
+    Unknown,
+}
+
+fn mode_with(n: u32) -> Chosen
+    ensures { λ r. ⌜ chosen r ≡ modeOf n ⌝ }
+{
+    match n {
+        PLAIN => Chosen::Known(Mode::Plain),
+        KEEPING => Chosen::Known(Mode::Keeping),
+        _ => Chosen::Unknown,
+    }
+}
 
 // A refusal of document 01 with its element, or 0 with the counts and the bytes of the listing.
 struct Report {
@@ -67,20 +90,26 @@ fn report_listed(a: ListAnswer) -> Report
     }
 }
 
-// The records of a tree image, with the four counts and 0; or the number of a refusal, with four times 0 and its element.
+// The records of a tree image in the mode with a number, with the four counts and 0; or the number of a refusal, with four times 0 and
+// its element. For a number that no mode has nothing is written.
 #[no_mangle]
 pub extern "C" fn tungvesk_print(
     image: &[u8],
+    mode: u32,
     records: &mut [u32],
     texts: &mut [u8],
     counts: &mut [u64; 5],
 ) -> u32
-    ensures { λ r. ⌜ r ≡ number (answerIn image records texts none) ⌝ }
-    ensures { λ _. ⌜ now (counts .exit) ≡ sets (now (counts .entry)) 0 (values (answerIn image records texts none)) ⌝ }
-    ensures { λ _. ⌜ now (records .exit) ≡ recordsIn image records texts none ⌝ }
-    ensures { λ _. ⌜ now (texts .exit) ≡ textsIn image records texts none ⌝ }
+    ensures { λ r. ⌜ r ≡ byMode (modeOf mode) unknownMode (λ m. number (answerIn image m records texts none)) ⌝ }
+    ensures { λ _. ⌜ now (counts .exit) ≡ byMode (modeOf mode) (now (counts .entry)) (λ m. sets (now (counts .entry)) 0 (values (answerIn image m records texts none))) ⌝ }
+    ensures { λ _. ⌜ now (records .exit) ≡ byMode (modeOf mode) (now (records .entry)) (λ m. recordsIn image m records texts none) ⌝ }
+    ensures { λ _. ⌜ now (texts .exit) ≡ byMode (modeOf mode) (now (texts .entry)) (λ m. textsIn image m records texts none) ⌝ }
 {
-    let r = report_of(formatter::print_items(image, records, texts));
+    let chosen = mode_with(mode);
+    let Chosen::Known(m) = chosen else {
+        return UNKNOWN_MODE;
+    };
+    let r = report_of(formatter::print_items(image, m, records, texts));
     counts[0] = r.counts.records as u64;
     counts[1] = r.counts.texts as u64;
     counts[2] = r.counts.runs as u64;
@@ -93,18 +122,23 @@ pub extern "C" fn tungvesk_print(
 #[no_mangle]
 pub extern "C" fn tungvesk_list(
     image: &[u8],
+    mode: u32,
     records: &mut [u32],
     texts: &mut [u8],
     listing: &mut [u8],
     counts: &mut [u64; 6],
 ) -> u32
-    ensures { λ r. ⌜ r ≡ number (answerIn image records texts (listed listing)) ⌝ }
-    ensures { λ _. ⌜ now (counts .exit) ≡ sets (now (counts .entry)) 0 (valuesListed (answerIn image records texts (listed listing))) ⌝ }
-    ensures { λ _. ⌜ now (records .exit) ≡ recordsIn image records texts (listed listing) ⌝ }
-    ensures { λ _. ⌜ now (texts .exit) ≡ textsIn image records texts (listed listing) ⌝ }
-    ensures { λ _. ⌜ now (listing .exit) ≡ listingIn image records texts listing ⌝ }
+    ensures { λ r. ⌜ r ≡ byMode (modeOf mode) unknownMode (λ m. number (answerIn image m records texts (listed listing))) ⌝ }
+    ensures { λ _. ⌜ now (counts .exit) ≡ byMode (modeOf mode) (now (counts .entry)) (λ m. sets (now (counts .entry)) 0 (valuesListed (answerIn image m records texts (listed listing)))) ⌝ }
+    ensures { λ _. ⌜ now (records .exit) ≡ byMode (modeOf mode) (now (records .entry)) (λ m. recordsIn image m records texts (listed listing)) ⌝ }
+    ensures { λ _. ⌜ now (texts .exit) ≡ byMode (modeOf mode) (now (texts .entry)) (λ m. textsIn image m records texts (listed listing)) ⌝ }
+    ensures { λ _. ⌜ now (listing .exit) ≡ byMode (modeOf mode) (now (listing .entry)) (λ m. listingIn image m records texts listing) ⌝ }
 {
-    let l = report_listed(formatter::list_items(image, records, texts, listing));
+    let chosen = mode_with(mode);
+    let Chosen::Known(m) = chosen else {
+        return UNKNOWN_MODE;
+    };
+    let l = report_listed(formatter::list_items(image, m, records, texts, listing));
     counts[0] = l.counts.records as u64;
     counts[1] = l.counts.texts as u64;
     counts[2] = l.counts.runs as u64;

@@ -1,4 +1,4 @@
--- The printing with its bodies put back is the plain printing, and the numbers that its items name are small.
+-- The printing with its bodies put back is the plain printing, in every context; the numbers that its items name are small; and where it ends does not depend on the context.
 use mathlib.Core.Path.{_≡_, refl, ap, _∙_}
 use mathlib.Core.Bool.{Bool, true, false, cond, not, _||_}
 use mathlib.Core.Option.{Option, none as nothing, some}
@@ -10,7 +10,8 @@ use lib.Dec.{leb, eqb}
 use borrow.Author.Tests.{eq-eqb}
 use Rattle.text.specs.Basic.{ascii, isNil, sum, All, ∅, _▹_}
 use Rattle.text.proofs.Lists.{sum-append, all-append}
-use Rattle.items.specs.Item.{Test, lines, Item, text, newline, spaceOrNewline, tab, indent, outdent, mark, group, groupEnd, block, blockEnd, run, runEnd, again, ifTest, elseItem, endIf, Out, stop, ok, Print, after, next, _⨟_, none, say, says, stopped, lit, when, withNumber, openRun, startingAt, signal}
+use Rattle.items.specs.Item.{Test, lines, Item, text, newline, spaceOrNewline, tab, indent, outdent, mark, group, groupEnd, block, blockEnd, run, runEnd, again, ifTest, elseItem, endIf, Out, stop, ok, Context, Print, after, next, _⨟_, none, say, says, stopped, lit, when, keeping, withNumber, openRun, startingAt, signal}
+use Rattle.numbers.specs.Mode.{keeps}
 use Rattle.items.specs.Role.{stays, role, isRun, isMark, runsOf, marksOf}
 use Rattle.items.specs.declared.Signal.{Signal}
 use Rattle.items.proofs.Fits.{itemsOf}
@@ -136,42 +137,61 @@ data Meets (a b k : ℕ) : Out → Out → Type 0 where
   stops : {xs ys : List Item} (e : ℕ) → All (Below (k + runsOf xs)) xs → Meets a b k (stop xs e) (stop ys e)
   gives : {l : ℕ} {xs ys : List Item} → Fits a b k l xs ys → Meets a b k (ok xs l) (ok ys l)
 
--- Two printings meet from every number from j on, as where a test names the marks of list j.
+-- Two printings end alike: they stop at one element, or come to the same number.
+pub data Alike : Out → Out → Type 0 where
+  stops : {xs ys : List Item} (e : ℕ) → Alike (stop xs e) (stop ys e)
+  gives : {xs ys : List Item} (k : ℕ) → Alike (ok xs k) (ok ys k)
+
+-- Two printings meet from every number from j on, as where a test names the marks of list j, and end alike, whatever the context of each.
 record Agree (j : ℕ) (p q : Print) : Type 0 where
-  at : (k : ℕ) → j ≤ k → Meets 0 0 k (p k) (q k)
+  at : (c : Context) (k : ℕ) → j ≤ k → Meets 0 0 k (p c k) (q c k)
+  ends : (c d : Context) (k : ℕ) → Alike (p c k) (q d k)
+
+-- The same of two printings of list k whose marks stand around them.
+record Inner (k : ℕ) (p q : Print) : Type 0 where
+  at : (c : Context) → Meets 2 0 k (p c k) (q c k)
+  ends : (c d : Context) → Alike (p c k) (q d k)
 
 later : {j : ℕ} {p q : Print} → Agree 0 p q → Agree j p q
-later h = record { at = λ k l. h .at k (omega arith) }
+later h = record { at = λ c k l. h .at c k (omega arith); ends = h .ends }
 
 after-meets : {a b c d k l : ℕ} {xs ys : List Item} {o o′ : Out} → Fits a b k l xs ys → Meets c d l o o′ → Meets (a + c) (b + d) k (after xs o) (after ys o′)
 after-meets {xs} f (stops {xs = us} e s) =
     stops e (let r = runs-append xs us in all-append (below-le (omega (arith, f .next)) (f .small)) (below-le (omega (arith, f .next)) s))
 after-meets f (gives g) = gives (join-fits f g)
 
-next-meets : {a b c d k : ℕ} {o o′ : Out} {p q : Print} → Meets a b k o o′ → ((l : ℕ) → k ≤ l → Meets c d l (p l) (q l)) → Meets (a + c) (b + d) k (next o p) (next o′ q)
+next-meets : {a b c d k : ℕ} {o o′ : Out} {p q : ℕ → Out} → Meets a b k o o′ → ((l : ℕ) → k ≤ l → Meets c d l (p l) (q l)) → Meets (a + c) (b + d) k (next o p) (next o′ q)
 next-meets (stops e s) h = stops e s
 next-meets (gives f) h = after-meets f (h _ (omega (arith, f .next)))
+
+after-alike : (xs ys : List Item) {o o′ : Out} → Alike o o′ → Alike (after xs o) (after ys o′)
+after-alike xs ys (stops e) = stops e
+after-alike xs ys (gives k) = gives k
+
+next-alike : {o o′ : Out} {p q : ℕ → Out} → Alike o o′ → ((l : ℕ) → Alike (p l) (q l)) → Alike (next o p) (next o′ q)
+next-alike (stops e) h = stops e
+next-alike (gives {xs} {ys} k) h = after-alike xs ys (h k)
 
 infixr 40 _⨾_
 _⨾_ : {j : ℕ} {p q p′ q′ : Print} → Agree j p q → Agree j p′ q′ → Agree j (p ⨟ p′) (q ⨟ q′)
 unfolding _⨟_
-_⨾_ h g = record { at = λ k l. next-meets (h .at k l) (λ m i. g .at m (omega arith)) }
+_⨾_ h g = record { at = λ c k l. next-meets (h .at c k l) (λ m i. g .at c m (omega arith)); ends = λ c d k. next-alike (h .ends c d k) (g .ends c d) }
 
 none-agree : {j : ℕ} → Agree j none none
 unfolding none
-none-agree = record { at = λ k l. gives nil-fits }
+none-agree = record { at = λ c k l. gives nil-fits; ends = λ c d k. gives k }
 
 stopped-agree : {j : ℕ} (e : ℕ) → Agree j (stopped e) (stopped e)
 unfolding stopped
-stopped-agree e = record { at = λ k l. stops e ∅ }
+stopped-agree e = record { at = λ c k l. stops e ∅; ends = λ c d k. stops e }
 
 says-agree : {j : ℕ} {xs : List Item} → All (Still j) xs → Agree j (says xs) (says xs)
 unfolding says
-says-agree h = record { at = λ k l. gives (still-fits (still-le l h)) }
+says-agree h = record { at = λ c k l. gives (still-fits (still-le l h)); ends = λ c d k. gives k }
 
 say-agree : {j : ℕ} (x : Item) → Still j x → Agree j (say x) (say x)
 unfolding say
-say-agree x h = record { at = λ k l. gives (still-fits (still-le l (h ▹ ∅))) }
+say-agree x h = record { at = λ c k l. gives (still-fits (still-le l (h ▹ ∅))); ends = λ c d k. gives k }
 
 -- an item that names no number
 own-agree : {j : ℕ} (x : Item) → role x ≡ stays → numberIn x ≡ 0 → Agree j (say x) (say x)
@@ -186,6 +206,29 @@ unfolding when
 when-agree true h = h
 when-agree false h = none-agree
 
+-- what never stops and has no list
+abbrev Quiet : Print → Type 0
+Quiet p = (c d : Context) (k : ℕ) → Alike (p c k) (none d k)
+
+one-end : {o o′ o″ : Out} → Alike o o″ → Alike o′ o″ → Alike o o′
+one-end (stops e) (stops n) = stops e
+one-end (gives k) (gives n) = gives k
+
+-- printed or not, it never stops and has no list
+keeping-quiet : (p : Print) → Quiet p → Quiet (keeping p)
+unfolding keeping when
+keeping-quiet p h c d k = go (keeps (c .mode))
+  where
+    go : (b : Bool) → Alike (when b p c k) (none d k)
+    go true = h c d k
+    go false = none-agree {j = 0} .ends c d k
+
+keeping-agree : {j : ℕ} {p q : Print} → Quiet p → Quiet q → Agree j p q → Agree j (keeping p) (keeping q)
+keeping-agree {p = p} {q} x y h = record {
+  at = λ c k l. unfold keeping in (when-agree (keeps (c .mode)) h .at c k l);
+  ends = λ c d k. one-end (keeping-quiet p x c d k) (keeping-quiet q y d d k);
+}
+
 mark-fits : (n k : ℕ) → n ≤ 2 * k + 1 → Fits 0 1 k k (mark n ∷ []) (mark n ∷ [])
 unfolding puts put sum
 mark-fits n k h = record { back = λ s. (s .bodies, refl); next = omega arith; marks = refl; small = record { named = h } ▹ ∅ }
@@ -198,32 +241,60 @@ text-still : {k : ℕ} (s : List ℕ) → All (Still k) (text s ∷ [])
 text-still s = still (text s) refl refl ▹ ∅
 
 -- a list's brackets and marks, around one run
-brackets-agree : {j : ℕ} (a z : String) (p q : ℕ → Print) → ((k : ℕ) → Meets 2 0 k (p k k) (q k k)) → Agree j (Combine.bracketed a z p) (PlainCombine.bracketed a z q)
+brackets-agree : {j : ℕ} (a z : String) (p q : ℕ → Print) → ((k : ℕ) → Inner k (p k) (q k)) → Agree j (Combine.bracketed a z p) (PlainCombine.bracketed a z q)
 unfolding _⨟_ withNumber lit say Combine.bracketed PlainCombine.bracketed
 brackets-agree a z p q h = record {
-  at = λ k i.
-      cancel (after-meets (still-fits (text-still (ascii a))) (after-meets (mark-fits (2 * k) k (omega arith)) (next-meets (h k)
+  at = λ c k i.
+      cancel (after-meets (still-fits (text-still (ascii a))) (after-meets (mark-fits (2 * k) k (omega arith)) (next-meets (h k .at c)
       (λ l m. after-meets (still-fits (text-still (ascii z))) (gives (mark-fits (2 * k + 1) l (omega arith)))))));
+  ends = λ c d k. let front = text (ascii a) ∷ [] in let first = mark (2 * k) ∷ [] in
+      after-alike front front (after-alike first first (next-alike (h k .ends c d) (λ l. gives l)));
 }
 
-shared-meets : (k : ℕ) (t : Test) {p q : Print} (xs ys : List Item) → Below k (ifTest t) → All (Still k) xs → All (Still k) ys → Agree k p q
-    → Meets 2 0 k (Print.shared k t p (says xs) (says ys) k) (Plain.twice k t q (says xs) (says ys) k)
-unfolding _⨟_ say says openRun startingAt Print.shared Plain.twice sum
-shared-meets k t {p} {q} xs ys b hx hy h = go (p (suc k)) (q (suc k)) refl refl (h .at (suc k) (omega arith))
-  where
-    front : All (Below k) (ifTest t ∷ block ∷ newline ∷ run k ∷ [])
-    front = b ▹ names block (omega arith) ▹ names newline (omega arith) ▹ names (run k) (omega arith) ▹ ∅
+module _ (k : ℕ) (t : Test) (p q : Print) (xs ys : List Item) where
+  abbrev once : Print
+  once = Print.shared k t p (says xs) (says ys)
 
-    go : (o o′ : Out) → p (suc k) ≡ o → q (suc k) ≡ o′ → Meets 0 0 (suc k) o o′ → Meets 2 0 k (Print.shared k t p (says xs) (says ys) k) (Plain.twice k t q (says xs) (says ys) k)
-    go o o′ e e′ (stops {xs = us} n s) = rw (e, e′) (stops n (all-append (below-le (omega arith) front) (below-le (omega arith) s)))
-    go o o′ e e′ (gives f) = simp (e, e′, append-assoc) (gives (simp append-assoc at
-        (join-fits (still-fits {xs = ifTest t ∷ block ∷ newline ∷ []} (record { stay = refl; below = b } ▹ still block refl refl ▹ still newline refl refl ▹ ∅))
-        (run-fits {us = blockEnd ∷ (xs ++ (elseItem ∷ ys))} {vs = endIf ∷ []} f (still blockEnd refl refl ▹ all-append hx (still elseItem refl refl ▹ hy)) (still endIf refl refl ▹ ∅)))))
+  abbrev both : Print
+  both = Plain.twice k t q (says xs) (says ys)
+
+  shared-meets : Below k (ifTest t) → All (Still k) xs → All (Still k) ys → Agree k p q → (c : Context) → Meets 2 0 k (once c k) (both c k)
+  unfolding _⨟_ say says openRun startingAt Print.shared Plain.twice sum
+  shared-meets b hx hy h c = go (p c (suc k)) (q c (suc k)) refl refl (h .at c (suc k) (omega arith))
+    where
+      front : All (Below k) (ifTest t ∷ block ∷ newline ∷ run k ∷ [])
+      front = b ▹ names block (omega arith) ▹ names newline (omega arith) ▹ names (run k) (omega arith) ▹ ∅
+
+      go : (o o′ : Out) → p c (suc k) ≡ o → q c (suc k) ≡ o′ → Meets 0 0 (suc k) o o′ → Meets 2 0 k (once c k) (both c k)
+      go o o′ e e′ (stops {xs = us} n s) = rw (e, e′) (stops n (all-append (below-le (omega arith) front) (below-le (omega arith) s)))
+      go o o′ e e′ (gives f) = simp (e, e′, append-assoc) (gives (simp append-assoc at
+          (join-fits (still-fits {xs = ifTest t ∷ block ∷ newline ∷ []} (record { stay = refl; below = b } ▹ still block refl refl ▹ still newline refl refl ▹ ∅))
+          (run-fits {us = blockEnd ∷ (xs ++ (elseItem ∷ ys))} {vs = endIf ∷ []} f (still blockEnd refl refl ▹ all-append hx (still elseItem refl refl ▹ hy)) (still endIf refl refl ▹ ∅)))))
+
+  shared-alike : Agree k p q → (c d : Context) → Alike (once c k) (both d k)
+  unfolding _⨟_ say says openRun startingAt Print.shared Plain.twice
+  shared-alike h c d = go (p c (suc k)) (q d (suc k)) refl refl (h .ends c d (suc k))
+    where
+      go : (o o′ : Out) → p c (suc k) ≡ o → q d (suc k) ≡ o′ → Alike o o′ → Alike (once c k) (both d k)
+      go o o′ e e′ (stops n) = rw (e, e′) (stops n)
+      go o o′ e e′ (gives l) = simp (e, e′) (gives l)
+
+  shared-inner : Below k (ifTest t) → All (Still k) xs → All (Still k) ys → Agree k p q → Inner k once both
+  shared-inner b hx hy h = record { at = shared-meets b hx hy h; ends = shared-alike h }
 
 comments-agree : {j : ℕ} (loc : Location) (xs : List Part) → Agree j (comments xs loc) (comments xs loc)
 unfolding comments
 comments-agree loc [] = none-agree
 comments-agree {j} loc (x ∷ xs) = says-agree (comment-all (Still j) (still newline refl refl) (still tab refl refl) (λ s. still (text s) refl refl) (x .kind) (x .text) loc) ⨾ comments-agree loc xs
+
+comments-quiet : (loc : Location) (xs : List Part) → Quiet (comments xs loc)
+unfolding comments none _⨟_ says
+comments-quiet loc [] c d k = gives k
+comments-quiet loc (x ∷ xs) c d k = after-alike _ [] (comments-quiet loc xs c d k)
+
+-- comments that are kept
+kept-agree : {j : ℕ} (loc : Location) (xs : List Part) → Agree j (keeping (comments xs loc)) (keeping (comments xs loc))
+kept-agree loc xs = keeping-agree (comments-quiet loc xs) (comments-quiet loc xs) (comments-agree loc xs)
 
 newline-agree : {j : ℕ} (b : Bool) → Agree j (Combine.newlineIf b) (PlainCombine.newlineIf b)
 newline-agree b = when-agree b (own-agree newline refl refl)
@@ -271,11 +342,11 @@ run-agree : {j : ℕ} (a z : String) (many : Bool) (p q : Test → Print) → ((
     → Agree j (Combine.bracketed a z λ k. let t = Combine.testOf many k in Print.shared k t (p t) none (lit " ")) (PlainCombine.bracketed a z λ k. let t = PlainCombine.testOf many k in Plain.twice k t (q t) none (lit " "))
 unfolding none says lit say
 run-agree a z many p q h = brackets-agree a z _ _ (λ k. let t = Combine.testOf many k in let b = testOf-tests many k in
-    rw (testOf-same many k) (shared-meets k t [] (text (ascii " ") ∷ []) b ∅ (text-still (ascii " ")) (h k t b)))
+    rw (testOf-same many k) (shared-inner k t _ _ [] (text (ascii " ") ∷ []) b ∅ (text-still (ascii " ")) (h k t b)))
 
-then-meets : (k : ℕ) (p q : Print) {p′ q′ : Print} → Meets 2 0 k (p k) (q k) → Agree k p′ q′ → Meets 2 0 k ((p ⨟ p′) k) ((q ⨟ q′) k)
+then-inner : (k : ℕ) (p q : Print) {p′ q′ : Print} → Inner k p q → Agree k p′ q′ → Inner k (p ⨟ p′) (q ⨟ q′)
 unfolding _⨟_
-then-meets k p q h g = next-meets h (g .at)
+then-inner k p q h g = record { at = λ c. next-meets (h .at c) (g .at c); ends = λ c d. next-alike (h .ends c d) (g .ends c d) }
 
 signal-agree : {j : ℕ} (x : Signal) → Agree j (say (signal x)) (say (signal x))
 signal-agree x = let g = signal-sign x in own-agree (signal x) (g .stay) (g .unnamed)
@@ -334,7 +405,7 @@ module _ (pr pr′ : ℕ → Print) (same : (n : ℕ) → Agree 0 (pr n) (pr′ 
   unfolding none says say Print.arguments Plain.arguments
   arguments-agree (Reading.foreign n) = stopped-agree n
   arguments-agree (Reading.read cs e) = brackets-agree "(" ")" _ _ (λ k. let b : Tests k (lines (2 * k)) = record { named = omega arith } in
-      then-meets k _ _ (shared-meets k (lines (2 * k)) (newline ∷ []) [] b (still newline refl refl ▹ ∅) ∅
+      then-inner k _ _ (shared-inner k (lines (2 * k)) _ _ (newline ∷ []) [] b (still newline refl refl ▹ ∅) ∅
       (grouped-agree (children-agree _ _ _ _ (λ m. comma-agree m (lines (2 * k)) b) (λ m. when-agree m (separator-agree (lines (2 * k)) b)) cs))) (ending-agree e))
 
   compBody-agree : (ms : List Reading.Child) (me : Reading.Ending) (r : Reading.Reading) → Agree 0 (Print.compBody pr ms me r) (Plain.compBody pr′ ms me r)
@@ -367,6 +438,16 @@ module _ (pr pr′ : ℕ → Print) (same : (n : ℕ) → Agree 0 (pr n) (pr′ 
   local-agree (Reading.read (c ∷ []) e) = comments-agree aboveItem (c .before) ⨾ lit-agree "local " ⨾ same (c .value .number)
   local-agree (Reading.read (c ∷ d ∷ cs) e) = binds-agree (c ∷ d ∷ cs) e
 
+  statements-agree : (cs : List Reading.Child) → Agree 0 (Print.statements pr cs) (Plain.statements pr′ cs)
+  unfolding Print.statements Print.statement Plain.statements Plain.statement
+  statements-agree [] = none-agree
+  statements-agree (c ∷ cs) = (kept-agree aboveItem (c .before) ⨾ same (c .value .number) ⨾ kept-agree endOfItems (c .inline)) ⨾ statements-agree cs
+
+  statementsOf-agree : (r : Reading.Reading) → Agree 0 (Print.statementsOf pr r) (Plain.statementsOf pr′ r)
+  unfolding Print.statementsOf Plain.statementsOf
+  statementsOf-agree (Reading.foreign n) = stopped-agree n
+  statementsOf-agree (Reading.read cs e) = statements-agree cs ⨾ kept-agree endOfItems (e .trivia)
+
   values-agree : (cs : List Reading.Child) → Agree 0 (Print.values pr cs) (Plain.values pr′ cs)
   unfolding Print.values Plain.values
   values-agree [] = none-agree
@@ -380,7 +461,7 @@ module _ (pr pr′ : ℕ → Print) (same : (n : ℕ) → Agree 0 (pr n) (pr′ 
   expression-agree : (xs : List Part) (o : Option Part) → Agree 0 (Print.expression pr xs o) (Plain.expression pr′ xs o)
   unfolding Print.expression Plain.expression
   expression-agree xs o =
-      valuesOf-agree (Reading.between Class.Stmt nothing o nothing xs) ⨾ part-agree (lit-agree "/*missing ExprBase*/") o ⨾ valuesOf-agree (Reading.between Class.Suffix o nothing nothing xs)
+      statementsOf-agree (Reading.between Class.Stmt nothing o nothing xs) ⨾ part-agree (lit-agree "/*missing ExprBase*/") o ⨾ valuesOf-agree (Reading.between Class.Suffix o nothing nothing xs)
 
   element-agree : (k n : ℕ) (s below : List ℕ) (xs : List Part) → Agree 0 (Print.element pr k n s below xs) (Plain.element pr′ k n s below xs)
   unfolding Print.element Plain.element
@@ -419,14 +500,18 @@ unfolding Print.sourceFile Plain.plainFile
 file-same nil = none-agree
 file-same (tree e kids rest) = file-agree _ _ (prints-agree kids) (parts kids) (first Class.Expr (parts kids))
 
--- the printing with its bodies put back is the plain printing
-pub agree : (f : Forest) (k : ℕ) → Same k (Print.sourceFile f k) (Plain.plainFile f k)
-agree f k = same (file-same f .at k (omega arith))
+-- the printing with its bodies put back is the plain printing, in every context
+pub agree : (f : Forest) (c : Context) (k : ℕ) → Same k (Print.sourceFile f c k) (Plain.plainFile f c k)
+agree f c k = same (file-same f .at c k (omega arith))
+
+-- where the printing stops, or which number the next list has, does not depend on the context
+pub ends-alike : (f : Forest) (c d : Context) (k : ℕ) → Alike (Print.sourceFile f c k) (Print.sourceFile f d k)
+ends-alike f c d k = one-end (file-same f .ends c d k) (file-same f .ends d d k)
 
 small : {k : ℕ} {o o′ : Out} → Meets 0 0 k o o′ → All (Below (k + runsOf (itemsOf o))) (itemsOf o)
 small (stops e s) = s
 small (gives f) = below-le (omega (arith, f .next)) (f .small)
 
 -- an item names at most the second mark of the list that would come next, also where the printing stops
-pub numbers-small : (f : Forest) → let xs = itemsOf (Print.sourceFile f 0) in All (Below (runsOf xs)) xs
-numbers-small f = below-le (omega arith) (small (file-same f .at 0 (omega arith)))
+pub numbers-small : (f : Forest) (c : Context) → let xs = itemsOf (Print.sourceFile f c 0) in All (Below (runsOf xs)) xs
+numbers-small f c = below-le (omega arith) (small (file-same f .at c 0 (omega arith)))

@@ -8,7 +8,8 @@ use native.Mathlib.Omega.{arith}
 use lib.Dec.{ltb}
 use lib.ListN.{length, drop}
 use lib.Seq.{drop-append-seam}
-use Rattle.items.specs.Item.{Item, Out, stop, ok}
+use Rattle.numbers.specs.declared.mode.Mode.{Mode}
+use Rattle.items.specs.Item.{Item, Out, stop, ok, inMode}
 use Rattle.items.specs.Role.{runsOf, marksOf}
 use Rattle.items.specs.Records.{words, bytes, countsOf, overlaid, recordSize}
 use Rattle.items.proofs.Decoding.{decoded-is, words-length}
@@ -69,20 +70,20 @@ kept ls f buffer (printed xs) n e h = absurd (let z : _≡_ {A = ℕ} 0 1 = cc i
 behind : (n : ℕ) (ws buffer : List ℕ) → length ws ≡ n → drop n (overlaid ws buffer) ≡ drop n buffer
 behind n ws buffer e = rw (← e) (drop-append-seam ws (drop (length ws) buffer))
 
--- What holds where the tests leave the items xs.
-pub record Passed (image : List ℕ) (xs : List Item) : Type 0 where
+-- What holds where the tests leave the items xs in a mode.
+pub record Passed (m : Mode) (image : List ℕ) (xs : List Item) : Type 0 where
   pub accepts : Accepted image
-  pub prints : sourceFile (treeOf image) 0 ≡ ok xs (runsOf xs)
-  pub plain : plainFile (treeOf image) 0 ≡ ok (putBack xs) (runsOf xs)
+  pub prints : sourceFile (treeOf image) (inMode m) 0 ≡ ok xs (runsOf xs)
+  pub plain : plainFile (treeOf image) (inMode m) 0 ≡ ok (putBack xs) (runsOf xs)
   pub pairs : marksOf xs ≡ 2 * runsOf xs
 
-pub passed : (image rs ts : List ℕ) (ls : Option (List ℕ)) (xs : List Item) → ruling image rs ts ls ≡ printed xs → Passed image xs
+pub passed : (m : Mode) (image rs ts : List ℕ) (ls : Option (List ℕ)) (xs : List Item) → ruling m image rs ts ls ≡ printed xs → Passed m image xs
 unfolding ruling verdict
-passed image rs ts ls xs h =
-    let v = room-printed (length rs) (length ts) (verdict image) xs (listing-printed ls (withRoom (length rs) (length ts) (verdict image)) xs h) in
-    let (n, p) = tests-printed (refusal image) (fromPrinting (sourceFile (treeOf image) 0)) xs v in
-    let (k, o) = printing-printed (sourceFile (treeOf image) 0) xs p in
-    let (e, q, m) = same-ok xs k (rw o at (agree (treeOf image) 0)) in
+passed m image rs ts ls xs h =
+    let v = room-printed (length rs) (length ts) (verdict m image) xs (listing-printed ls (withRoom (length rs) (length ts) (verdict m image)) xs h) in
+    let (n, p) = tests-printed (refusal image) (fromPrinting (sourceFile (treeOf image) (inMode m) 0)) xs v in
+    let (k, o) = printing-printed (sourceFile (treeOf image) (inMode m) 0) xs p in
+    let (e, q, m) = same-ok xs k (rw o at (agree (treeOf image) (inMode m) 0)) in
     record { accepts = accepted image n; prints = rw e at o; plain = q; pairs = m }
 
 -- ---- answers
@@ -94,12 +95,12 @@ answer-printed ls (printed xs) c n h = (xs, refl, cc, cc)
 
 -- what an answer with counts says of the buffers that come back
 pub answered :
-    (image rs ts : List ℕ) (ls : Option (List ℕ)) (c : Count) (n : Option ℕ) → answer image rs ts ls ≡ done c n
-    → Answered image (recordsAfter image rs ts ls) (textsAfter image rs ts ls) c
+    (m : Mode) (image rs ts : List ℕ) (ls : Option (List ℕ)) (c : Count) (n : Option ℕ) → answer m image rs ts ls ≡ done c n
+    → Answered m image (recordsAfter m image rs ts ls) (textsAfter m image rs ts ls) c
 unfolding answer recordsAfter textsAfter bufferOf
-answered image rs ts ls c n h = let (xs, v, e, _) = answer-printed ls (ruling image rs ts ls) c n h in go xs v e (passed image rs ts ls xs v)
+answered m image rs ts ls c n h = let (xs, v, e, _) = answer-printed ls (ruling m image rs ts ls) c n h in go xs v e (passed m image rs ts ls xs v)
   where
-    go : (xs : List Item) → ruling image rs ts ls ≡ printed xs → c ≡ countsOf xs → Passed image xs → Answered image (recordsAfter image rs ts ls) (textsAfter image rs ts ls) c
+    go : (xs : List Item) → ruling m image rs ts ls ≡ printed xs → c ≡ countsOf xs → Passed m image xs → Answered m image (recordsAfter m image rs ts ls) (textsAfter m image rs ts ls) c
     go xs v e p = record {
       items = xs;
       decodes = rw (e, v) (decoded-is xs (drop (length (words 0 xs)) rs) (drop (length (bytes xs)) ts));
@@ -107,38 +108,38 @@ answered image rs ts ls c n h = let (xs, v, e, _) = answer-printed ls (ruling im
       counts = e;
       plain = rw e (p .plain);
       marks = rw e (p .pairs);
-      bound = rw e (rw (p .prints) at (records-bound (p .accepts)));
+      bound = rw e (rw (p .prints) at (records-bound (p .accepts) (inMode m)));
     }
 
 -- 'Buffers are written only after all tests': a refusal leaves each as it was
 pub untouched :
-    (image rs ts : List ℕ) (ls : Option (List ℕ)) (n e : ℕ) → answer image rs ts ls ≡ refused n e
-    → (recordsAfter image rs ts ls ≡ rs) × (textsAfter image rs ts ls ≡ ts)
+    (m : Mode) (image rs ts : List ℕ) (ls : Option (List ℕ)) (n e : ℕ) → answer m image rs ts ls ≡ refused n e
+    → (recordsAfter m image rs ts ls ≡ rs) × (textsAfter m image rs ts ls ≡ ts)
 unfolding answer recordsAfter textsAfter
-untouched image rs ts ls n e h = (kept ls (words 0) rs (ruling image rs ts ls) n e h, kept ls bytes ts (ruling image rs ts ls) n e h)
+untouched m image rs ts ls n e h = (kept ls (words 0) rs (ruling m image rs ts ls) n e h, kept ls bytes ts (ruling m image rs ts ls) n e h)
 
-pub listing-untouched : (image rs ts ls : List ℕ) (n e : ℕ) → answer image rs ts (some ls) ≡ refused n e → listingAfter image rs ts ls ≡ ls
+pub listing-untouched : (m : Mode) (image rs ts ls : List ℕ) (n e : ℕ) → answer m image rs ts (some ls) ≡ refused n e → listingAfter m image rs ts ls ≡ ls
 unfolding answer listingAfter
-listing-untouched image rs ts ls n e h = kept (some ls) listing ls (ruling image rs ts (some ls)) n e h
+listing-untouched m image rs ts ls n e h = kept (some ls) listing ls (ruling m image rs ts (some ls)) n e h
 
 -- an answer with counts leaves what is past them as it was
 pub beyond :
-    (image rs ts : List ℕ) (ls : Option (List ℕ)) (c : Count) (n : Option ℕ) → answer image rs ts ls ≡ done c n
-    → (drop (recordSize * c .records) (recordsAfter image rs ts ls) ≡ drop (recordSize * c .records) rs) × (drop (c .texts) (textsAfter image rs ts ls) ≡ drop (c .texts) ts)
+    (m : Mode) (image rs ts : List ℕ) (ls : Option (List ℕ)) (c : Count) (n : Option ℕ) → answer m image rs ts ls ≡ done c n
+    → (drop (recordSize * c .records) (recordsAfter m image rs ts ls) ≡ drop (recordSize * c .records) rs) × (drop (c .texts) (textsAfter m image rs ts ls) ≡ drop (c .texts) ts)
 unfolding answer recordsAfter textsAfter bufferOf
-beyond image rs ts ls c n h = let (xs, v, e, _) = answer-printed ls (ruling image rs ts ls) c n h in go xs v e
+beyond m image rs ts ls c n h = let (xs, v, e, _) = answer-printed ls (ruling m image rs ts ls) c n h in go xs v e
   where
-    go : (xs : List Item) → ruling image rs ts ls ≡ printed xs → c ≡ countsOf xs
-        → (drop (recordSize * c .records) (recordsAfter image rs ts ls) ≡ drop (recordSize * c .records) rs) × (drop (c .texts) (textsAfter image rs ts ls) ≡ drop (c .texts) ts)
+    go : (xs : List Item) → ruling m image rs ts ls ≡ printed xs → c ≡ countsOf xs
+        → (drop (recordSize * c .records) (recordsAfter m image rs ts ls) ≡ drop (recordSize * c .records) rs) × (drop (c .texts) (textsAfter m image rs ts ls) ≡ drop (c .texts) ts)
     go xs v e = rw (v, e) (behind (recordSize * length xs) (words 0 xs) rs (words-length 0 xs), behind (length (bytes xs)) (bytes xs) ts refl)
 
 -- where a listing was asked for, the answer gives its length, and its buffer begins with it and goes on as it was
 pub listed :
-    (image rs ts ls : List ℕ) (c : Count) (n : ℕ) → answer image rs ts (some ls) ≡ done c (some n)
-    → (xs : List Item) × (sourceFile (treeOf image) 0 ≡ ok xs (c .runs)) × (n ≡ length (listing xs)) × (listingAfter image rs ts ls ≡ overlaid (listing xs) ls)
+    (m : Mode) (image rs ts ls : List ℕ) (c : Count) (n : ℕ) → answer m image rs ts (some ls) ≡ done c (some n)
+    → (xs : List Item) × (sourceFile (treeOf image) (inMode m) 0 ≡ ok xs (c .runs)) × (n ≡ length (listing xs)) × (listingAfter m image rs ts ls ≡ overlaid (listing xs) ls)
 unfolding answer listingAfter bufferOf
-listed image rs ts ls c n h = let (xs, v, e, l) = answer-printed (some ls) (ruling image rs ts (some ls)) c (some n) h in go xs v e l
+listed m image rs ts ls c n h = let (xs, v, e, l) = answer-printed (some ls) (ruling m image rs ts (some ls)) c (some n) h in go xs v e l
   where
-    go : (xs : List Item) → ruling image rs ts (some ls) ≡ printed xs → c ≡ countsOf xs → some n ≡ lengthOf (some ls) xs
-        → (xs : List Item) × (sourceFile (treeOf image) 0 ≡ ok xs (c .runs)) × (n ≡ length (listing xs)) × (listingAfter image rs ts ls ≡ overlaid (listing xs) ls)
-    go xs v e l = (xs, rw e (passed image rs ts (some ls) xs v .prints), cc, rw v)
+    go : (xs : List Item) → ruling m image rs ts (some ls) ≡ printed xs → c ≡ countsOf xs → some n ≡ lengthOf (some ls) xs
+        → (xs : List Item) × (sourceFile (treeOf image) (inMode m) 0 ≡ ok xs (c .runs)) × (n ≡ length (listing xs)) × (listingAfter m image rs ts ls ≡ overlaid (listing xs) ls)
+    go xs v e l = (xs, rw e (passed m image rs ts (some ls) xs v .prints), cc, rw v)

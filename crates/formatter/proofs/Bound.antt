@@ -12,7 +12,8 @@ use lib.ListN.{length, length-append}
 use borrow.Author.Tests.{leb-true, eqb-true, eq-eqb, ne-eqb}
 use Rattle.text.specs.Basic.{ascii, isNil, sum, All, ∅, _▹_}
 use Rattle.text.proofs.Lists.{and-true, sum-append}
-use Rattle.items.specs.Item.{Test, Item, text, newline, spaceOrNewline, indent, outdent, mark, group, groupEnd, block, blockEnd, run, runEnd, again, ifTest, elseItem, endIf, Out, stop, ok, Print, after, next, _⨟_, none, say, says, stopped, lit, when, withNumber, openRun, signal}
+use Rattle.items.specs.Item.{Test, Item, text, newline, spaceOrNewline, indent, outdent, mark, group, groupEnd, block, blockEnd, run, runEnd, again, ifTest, elseItem, endIf, Out, stop, ok, Context, Print, after, next, _⨟_, none, say, says, stopped, lit, when, keeping, withNumber, openRun, signal}
+use Rattle.numbers.specs.Mode.{keeps}
 use Rattle.items.specs.Records.{bytesOf}
 use Rattle.items.specs.declared.Signal.{Signal}
 use Rattle.items.proofs.Fits.{itemsOf}
@@ -169,36 +170,36 @@ cost m o = sum m (itemsOf o)
 module _ (m : Item → ℕ) (u : ℕ) (short-le : (x : Item) → short (bytesOf x) ≡ true → m x ≤ u) (text-le : (s : List ℕ) → m (text s) ≤ u + length s)
     (comment-le : (k : ℕ) (s : List ℕ) (loc : Location) → sum m (comment k s loc) ≤ 12 * u + 2 * length s) where
   record Bounded (b : ℕ) (p : Print) : Type 0 where
-    at : (k : ℕ) → cost m (p k) ≤ b
+    at : (c : Context) (k : ℕ) → cost m (p c k) ≤ b
 
   after-cost : (xs : List Item) (o : Out) → cost m (after xs o) ≤ sum m xs + cost m o
   after-cost xs (stop ys e) = omega (arith, sum-append m xs ys)
   after-cost xs (ok ys k) = omega (arith, sum-append m xs ys)
 
-  next-cost : {a b : ℕ} (o : Out) {q : Print} → cost m o ≤ a → Bounded b q → cost m (next o q) ≤ a + b
-  next-cost (stop xs e) l h = omega arith
-  next-cost (ok xs k) {q} l h = omega (arith, after-cost xs (q k), h .at k)
+  next-cost : {a b : ℕ} (c : Context) (o : Out) {q : Print} → cost m o ≤ a → Bounded b q → cost m (next o (q c)) ≤ a + b
+  next-cost c (stop xs e) l h = omega arith
+  next-cost c (ok xs k) {q} l h = omega (arith, after-cost xs (q c k), h .at c k)
 
   infixr 40 _⊕_
   _⊕_ : {a b : ℕ} {p q : Print} → Bounded a p → Bounded b q → Bounded (a + b) (p ⨟ q)
   unfolding _⨟_
-  _⊕_ {p} g h = record { at = λ k. next-cost (p k) (g .at k) h }
+  _⊕_ {p} g h = record { at = λ c k. next-cost c (p c k) (g .at c k) h }
 
   infix 30 _≼_
   _≼_ : {a b : ℕ} {p : Print} → Bounded a p → a ≤ b → Bounded b p
-  _≼_ h l = record { at = λ k. omega (arith, h .at k) }
+  _≼_ h l = record { at = λ c k. omega (arith, h .at c k) }
 
   none-b : Bounded 0 none
   unfolding none sum
-  none-b = record { at = λ k. omega arith }
+  none-b = record { at = λ c k. omega arith }
 
   stopped-b : {n : ℕ} (e : ℕ) → Bounded n (stopped e)
   unfolding stopped sum
-  stopped-b e = record { at = λ k. omega arith }
+  stopped-b e = record { at = λ c k. omega arith }
 
   say-b : (x : Item) → short (bytesOf x) ≡ true → Bounded u (say x)
   unfolding say sum
-  say-b x h = record { at = λ k. omega (arith, short-le x h) }
+  say-b x h = record { at = λ c k. omega (arith, short-le x h) }
 
   lit-b : (s : String) → Short s → Bounded u (lit s)
   unfolding lit
@@ -206,20 +207,24 @@ module _ (m : Item → ℕ) (u : ℕ) (short-le : (x : Item) → short (bytesOf 
 
   own-b : (s : List ℕ) → Bounded (u + length s) (say (text s))
   unfolding say sum
-  own-b s = record { at = λ k. omega (arith, text-le s) }
+  own-b s = record { at = λ c k. omega (arith, text-le s) }
 
   says-b : {n : ℕ} (xs : List Item) → sum m xs ≤ n → Bounded n (says xs)
   unfolding says
-  says-b xs l = record { at = λ k. l }
+  says-b xs l = record { at = λ c k. l }
 
   run-b : Bounded u openRun
   unfolding openRun sum
-  run-b = record { at = λ k. omega (arith, short-le (run k) refl) }
+  run-b = record { at = λ c k. omega (arith, short-le (run k) refl) }
 
   when-b : {n : ℕ} (b : Bool) {p : Print} → Bounded n p → Bounded n (when b p)
   unfolding when
   when-b true h = h
   when-b false h = none-b ≼ omega arith
+
+  keeping-b : {n : ℕ} {p : Print} → Bounded n p → Bounded n (keeping p)
+  unfolding keeping
+  keeping-b h = record { at = λ c k. when-b (keeps (c .mode)) h .at c k }
 
   cond-b : {n : ℕ} (b : Bool) {p q : Print} → Bounded n p → Bounded n q → Bounded n (cond b p q)
   cond-b true h g = h
@@ -232,7 +237,7 @@ module _ (m : Item → ℕ) (u : ℕ) (short-le : (x : Item) → short (bytesOf 
 
   with-number-b : {n : ℕ} {p : ℕ → Print} → ((k : ℕ) → Bounded n (p k)) → Bounded n (withNumber p)
   unfolding withNumber
-  with-number-b h = record { at = λ k. h k .at k }
+  with-number-b h = record { at = λ c k. h k .at c k }
 
   -- what a part weighs as a comment
   abbrev half : Part → ℕ
@@ -355,6 +360,16 @@ module _ (m : Item → ℕ) (u : ℕ) (short-le : (x : Item) → short (bytesOf 
           ((newline-b (d .blankLine) ⊕ comments-b aboveItem (d .before) ⊕ o .has .holds ⊕ hf (Reading.more ds) ⊕ comments-b itemInline (d .inline)) ⊕ hg (Reading.more ds) ⊕ children-b r)
           ≼ omega (arith, l, ap (λ r. r * u) (roomy-is c h (d .value .kind) (o .kind)))
 
+    statements-b : {c : Class} {cs : List Child} → All (Of half W H c) cs → Bounded (sum (heft half W) cs) (Print.statements pr cs)
+    unfolding Print.statements Print.statement sum
+    statements-b ∅ = none-b
+    statements-b (_▹_ {x = d} o r) = ((keeping-b (comments-b aboveItem (d .before)) ⊕ value-b (o .has) ⊕ keeping-b (comments-b endOfItems (d .inline))) ⊕ statements-b r) ≼ omega arith
+
+    statementsOf-b : {c : Class} {n : ℕ} {r : Reading.Reading} → Tame c n r → Bounded n (Print.statementsOf pr r)
+    unfolding Print.statementsOf
+    statementsOf-b (Weights.foreign {m}) = stopped-b m
+    statementsOf-b (Weights.read {e} o l) = (statements-b o ⊕ keeping-b (comments-b endOfItems (e .trivia))) ≼ omega arith
+
     values-b : {c : Class} {cs : List Child} → All (Of half W H c) cs → Bounded (sum (heft half W) cs) (Print.values pr cs)
     unfolding Print.values sum
     values-b ∅ = none-b
@@ -420,7 +435,7 @@ module _ (m : Item → ℕ) (u : ℕ) (short-le : (x : Item) → short (bytesOf 
     expression-b : {xs : List Part} → All H xs → Bounded (14 * u + sum W xs) (Print.expression pr xs (first Class.ExprBase xs))
     unfolding columns sum apart every single empty kinds oneOf Print.expression
     expression-b {xs} p = let o = first Class.ExprBase xs in
-        (valuesOf-b (between-tame half W H Class.Stmt nothing o nothing p)
+        (statementsOf-b (between-tame half W H Class.Stmt nothing o nothing p)
         ⊕ part-b (lit-b "/*missing ExprBase*/" refl) (nth-all H Class.ExprBase 0 p)
         ⊕ valuesOf-b (between-tame half W H Class.Suffix o nothing nothing p))
         ≼ omega (
@@ -555,5 +570,5 @@ module _ (m : Item → ℕ) (u : ℕ) (short-le : (x : Item) → short (bytesOf 
       )
 
   -- the items of a tree measure at most 24 units for each of its elements and 4 for each byte of its texts
-  pub bound : {n : ℕ} {f : Forest} → Rising n f → (k : ℕ) → cost m (Print.sourceFile f k) ≤ 24 * (u * count f) + 4 * length (texts f)
-  bound r k = file-bound r .at k
+  pub bound : {n : ℕ} {f : Forest} → Rising n f → (c : Context) (k : ℕ) → cost m (Print.sourceFile f c k) ≤ 24 * (u * count f) + 4 * length (texts f)
+  bound r c k = file-bound r .at c k

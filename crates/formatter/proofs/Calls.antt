@@ -10,8 +10,9 @@ use lib.Dec.{leb, ltb}
 use lib.ListN.{length, drop, length-append}
 use borrow.Author.Tests.{lt-ltb, le-ltb, ltb-false, leb-true, not-true}
 use Rattle.text.proofs.Lists.{and-true}
-use Rattle.items.specs.Item.{Item, ok}
-use Rattle.items.specs.Role.{isMark, runsOf, marksOf}
+use Rattle.numbers.specs.declared.mode.Mode.{Mode}
+use Rattle.items.specs.Item.{Item, inMode}
+use Rattle.items.specs.Role.{isMark, marksOf}
 use Rattle.items.specs.Lines.{recordLines}
 use Rattle.items.specs.Records.{words, bytes, countsOf, overlaid, decoded, recordSize}
 use Rattle.items.specs.declared.Size.{Size}
@@ -30,7 +31,6 @@ use Rattle.listing.specs.Listing.{headLine, listing}
 use Rattle.listing.specs.Writes.{page, Writes}
 use Rattle.listing.specs.Listable.{Listable, itemsIn}
 use Rattle.listing.proofs.Listable.{items-are, listable}
-use Rattle.printer.specs.Print.{sourceFile}
 use Rattle.items.specs.declared.Count.{Count}
 use Rattle.formatter.specs.declared.serve.Plan.{Plan}
 use Rattle.formatter.specs.declared.serve.Attempt.{Attempt}
@@ -50,30 +50,30 @@ use Rattle.formatter.proofs.Answering.{same-ok, answered}
 
 -- ---- what the tests say
 
-module _ (image rs ts ls : List ℕ) where
+module _ (m : Mode) (image rs ts ls : List ℕ) where
   -- an image that is turned away: the buffers come back as they are
-  turned : (listed : Bool) (n e : ℕ) → ruling image rs ts (asked listed ls) ≡ turnedAway n e → Served image rs ts ls listed rs ts ls (refused n e)
+  turned : (listed : Bool) (n e : ℕ) → ruling m image rs ts (asked listed ls) ≡ turnedAway n e → Served m image rs ts ls listed rs ts ls (refused n e)
   unfolding answer answerOf recordsAfter textsAfter listingAfter bufferOf
   turned true n e h = record { answers = rw h; records = rw h; texts = rw h; listing = rw h }
   turned false n e h = record { answers = rw h; records = rw h; texts = rw h; listing = refl }
 
   -- no buffer matters to the tests 1 to 10
-  away : (listed : Bool) (n e : ℕ) → verdict image ≡ turnedAway n e → Served image rs ts ls listed rs ts ls (refused n e)
+  away : (listed : Bool) (n e : ℕ) → verdict m image ≡ turnedAway n e → Served m image rs ts ls listed rs ts ls (refused n e)
   unfolding ruling withRoom withListing
   away true n e h = turned true n e (rw h)
   away false n e h = turned false n e (rw h)
 
   -- the tests 1 to 9
-  pub refused-by : (listed : Bool) {t u : Tested} {f : Refusal} → t ≡ u → tree.said u ≡ tree.refused f → tree.said t ≡ tree.answer image → Served image rs ts ls listed rs ts ls (refused (f .number) (f .element))
+  pub refused-by : (listed : Bool) {t u : Tested} {f : Refusal} → t ≡ u → tree.said u ≡ tree.refused f → tree.said t ≡ tree.answer image → Served m image rs ts ls listed rs ts ls (refused (f .number) (f .element))
   unfolding tree.answer verdict fromTests
   refused-by listed {t} {u} {f} i j h = go (refusal image) refl (sym j ∙ ap tree.said (sym i) ∙ h)
     where
-      go : (o : Option Refusal) → refusal image ≡ o → tree.refused f ≡ tree.answered (countN image) (countB image) o → Served image rs ts ls listed rs ts ls (refused (f .number) (f .element))
+      go : (o : Option Refusal) → refusal image ≡ o → tree.refused f ≡ tree.answered (countN image) (countB image) o → Served m image rs ts ls listed rs ts ls (refused (f .number) (f .element))
       go none q k = absurd (let z : _≡_ {A = ℕ} 0 1 = cc in omega arith)
       go (some g) q k = let i : f ≡ g = cc in away listed (f .number) (f .element) (rw (q, ← i))
 
   -- the test 10
-  pub stops : (listed : Bool) {e : ℕ} → Halts image e → Served image rs ts ls listed rs ts ls (refused 10 e)
+  pub stops : (listed : Bool) {e : ℕ} → Halts m image e → Served m image rs ts ls listed rs ts ls (refused 10 e)
   unfolding verdict fromTests fromPrinting
   stops listed h = away listed 10 _ (rw (h .passed, h .stops))
 
@@ -84,12 +84,12 @@ abbrev left : List Item → Room → Verdict
 left xs Enough = printed xs
 left xs (Short r) = turnedAway (numberOf r) 0
 
-module _ (image rs ts ls : List ℕ) (xs : List Item) (v : verdict image ≡ printed xs) where
+module _ (m : Mode) (image rs ts ls : List ℕ) (xs : List Item) (v : verdict m image ≡ printed xs) where
   abbrev short : Bool → Room
   short listed = shortage (countsOf xs) (length (listing xs)) (length rs) (length ts) (length ls) listed
 
   -- the tests 11 to 13 say what the shortage is
-  rules : (listed : Bool) → ruling image rs ts (asked listed ls) ≡ left xs (short listed)
+  rules : (listed : Bool) → ruling m image rs ts (asked listed ls) ≡ left xs (short listed)
   unfolding ruling withRoom withListing shortage
   rules true = rw v (go (ltb (length rs) (recordSize * length xs)) (ltb (length ts) (length (bytes xs))))
     where
@@ -110,7 +110,7 @@ module _ (image rs ts ls : List ℕ) (xs : List Item) (v : verdict image ≡ pri
       go false false = refl
 
   -- where buffers have room for records and texts and no listing is asked for, the items are printed
-  rules-room : recordSize * length xs ≤ length rs → length (bytes xs) ≤ length ts → ruling image rs ts none ≡ printed xs
+  rules-room : recordSize * length xs ≤ length rs → length (bytes xs) ≤ length ts → ruling m image rs ts none ≡ printed xs
   unfolding ruling withRoom withListing
   rules-room h k = rw (v, le-ltb (length rs) (recordSize * length xs) h, le-ltb (length ts) (length (bytes xs)) k) refl
 
@@ -182,39 +182,39 @@ sized-ready s k = record { passed = s .passed; tabled = omega (arith, s .few, k)
 
 -- ---- attempts
 
-module _ {image rs ts ls rs′ ts′ ls′ : List ℕ} {listed : Bool} where
+module _ {m : Mode} {image rs ts ls rs′ ts′ ls′ : List ℕ} {listed : Bool} where
   -- an answer
-  pub answered-by : {room : Type 0} {r : ListAnswer} → Served image rs ts ls listed rs′ ts′ ls′ (replyTo listed r) → Attempted room image rs ts ls listed rs′ ts′ ls′ (Replied r)
+  pub answered-by : {room : Type 0} {r : ListAnswer} → Served m image rs ts ls listed rs′ ts′ ls′ (replyTo listed r) → Attempted room m image rs ts ls listed rs′ ts′ ls′ (Replied r)
   answered-by {r = r} h = record {
     answers = λ s e. let i : r ≡ s = cc in rw (← i) h;
     fills = λ e. absurd (let z : _≡_ {A = ℕ} 0 1 = cc in omega arith);
   }
 
   -- the same with room that implies the other's
-  pub attempted-as : {a b : Type 0} {r : Attempt} → (b → a) → Attempted a image rs ts ls listed rs′ ts′ ls′ r → Attempted b image rs ts ls listed rs′ ts′ ls′ r
+  pub attempted-as : {a b : Type 0} {r : Attempt} → (b → a) → Attempted a m image rs ts ls listed rs′ ts′ ls′ r → Attempted b m image rs ts ls listed rs′ ts′ ls′ r
   attempted-as f h = record { answers = h .answers; fills = λ e. let (n, k) = h .fills e in (λ x. n (f x), k) }
 
-module _ {image rs ts ls : List ℕ} {listed : Bool} where
+module _ {m : Mode} {image rs ts ls : List ℕ} {listed : Bool} where
   -- the buffers as they are
-  pub filled-by : {room : Type 0} → (room → ⊥) → Attempted room image rs ts ls listed rs ts ls Full
+  pub filled-by : {room : Type 0} → (room → ⊥) → Attempted room m image rs ts ls listed rs ts ls Full
   filled-by f = record { answers = λ r e. absurd (let z : _≡_ {A = ℕ} 0 1 = cc in omega arith); fills = λ e. (f, (refl, (refl, refl))) }
 
   -- a second attempt where the first was full
-  pub after-full : {room : Type 0} {rs′ ts′ ls′ rs″ ts″ ls″ : List ℕ} {a : Attempt} → Attempted room image rs ts ls listed rs′ ts′ ls′ a → a ≡ Full
-      → {r : Answer} → Served image rs′ ts′ ls′ listed rs″ ts″ ls″ r → Served image rs ts ls listed rs″ ts″ ls″ r
+  pub after-full : {room : Type 0} {rs′ ts′ ls′ rs″ ts″ ls″ : List ℕ} {a : Attempt} → Attempted room m image rs ts ls listed rs′ ts′ ls′ a → a ≡ Full
+      → {r : Answer} → Served m image rs′ ts′ ls′ listed rs″ ts″ ls″ r → Served m image rs ts ls listed rs″ ts″ ls″ r
   after-full h e k = let (_, (i, (j, l))) = h .fills e in rw (i, j, l) at k
 
 -- ---- a plan
 
-module _ {image index ops : List ℕ} {q : Plan} (w : Whole image index ops q) where
+module _ {m : Mode} {image index ops : List ℕ} {q : Plan} (w : Whole m image index ops q) where
   abbrev ys : List Item
   ys = plannedAt image index ops q
 
   -- a whole plan's items can be written
   whole-fits : Fits ys
-  whole-fits = rw (w .prints) at (items-fit (accepted image (w .passed)))
+  whole-fits = rw (w .prints) at (items-fit (accepted image (w .passed)) (inMode m))
 
-  whole-verdict : verdict image ≡ printed ys
+  whole-verdict : verdict m image ≡ printed ys
   unfolding verdict fromTests fromPrinting
   whole-verdict = rw (w .passed, w .prints)
 
@@ -224,7 +224,7 @@ module _ {image index ops : List ℕ} {q : Plan} (w : Whole image index ops q) w
 
   -- each run's list has two marks
   pairs : marksOf ys ≡ 2 * q .runs
-  pairs = let (_, _, m) = same-ok ys (q .runs) (rw (w .prints) at (agree (treeOf image) 0)) in rw (w .runs) m
+  pairs = let (_, _, m) = same-ok ys (q .runs) (rw (w .prints) at (agree (treeOf image) (inMode m) 0)) in rw (w .runs) m
 
   pub marks-fit : 2 * q .runs < 2 ^ 32
   marks-fit = rw (← pairs) (omega (arith, sum-le isMark one-mark ys, whole-fits .records))
@@ -236,10 +236,10 @@ module _ {image index ops : List ℕ} {q : Plan} (w : Whole image index ops q) w
   -- ---- room for all that an image may print
 
   few-records : length ys ≤ mostRecords image
-  few-records = rw (w .prints) at (records-bound (accepted image (w .passed)))
+  few-records = rw (w .prints) at (records-bound (accepted image (w .passed)) (inMode m))
 
   few-texts : length (bytes ys) ≤ 39 * mostRecords image
-  few-texts = omega (arith, few-records, rw (w .prints) at (texts-bound (accepted image (w .passed))))
+  few-texts = omega (arith, few-records, rw (w .prints) at (texts-bound (accepted image (w .passed)) (inMode m)))
 
 -- ---- what both calls answer
 
@@ -248,7 +248,7 @@ long : (xs : List Item) (c : Count) (m n : ℕ) → c ≡ countsOf xs → m ≡ 
 unfolding listing
 long xs c m n e k l = rw (length-append (headLine (countsOf xs)) (recordLines 0 xs)) (rw (e, k) at l)
 
-module _ {image index ops : List ℕ} {q : Plan} (rs ts ls : List ℕ) (listed : Bool) (z : Size) {c : Count} {n : ℕ} {f : Room} (w : Whole image index ops q) (y : z ≡ sized (ys w) (noSize listed)) (e : c ≡ countsWith z (q .runs)) (l : n ≡ length (headLine c) + z .lines) (g : f ≡ shortage c n (length rs) (length ts) (length ls) listed) where
+module _ {m : Mode} {image index ops : List ℕ} {q : Plan} (rs ts ls : List ℕ) (listed : Bool) (z : Size) {c : Count} {n : ℕ} {f : Room} (w : Whole m image index ops q) (y : z ≡ sized (ys w) (noSize listed)) (e : c ≡ countsWith z (q .runs)) (l : n ≡ length (headLine c) + z .lines) (g : f ≡ shortage c n (length rs) (length ts) (length ls) listed) where
   all-counted : c ≡ countsOf (ys w)
   all-counted = counted w listed z y e
 
@@ -256,23 +256,23 @@ module _ {image index ops : List ℕ} {q : Plan} (rs ts ls : List ℕ) (listed :
   line-counted : listed ≡ true → n ≡ length (listing (ys w))
   line-counted j = long (ys w) c (z .lines) n all-counted (ap Size.lines y ∙ rw (j, zero-add (length (recordLines 0 (ys w)))) refl) l
 
-  lacks : f ≡ short image rs ts ls (ys w) (whole-verdict w) listed
+  lacks : f ≡ short m image rs ts ls (ys w) (whole-verdict w) listed
   lacks = g ∙ go listed refl
     where
-      go : (b : Bool) → listed ≡ b → shortage c n (length rs) (length ts) (length ls) b ≡ short image rs ts ls (ys w) (whole-verdict w) b
+      go : (b : Bool) → listed ≡ b → shortage c n (length rs) (length ts) (length ls) b ≡ short m image rs ts ls (ys w) (whole-verdict w) b
       go true j = rw (line-counted j, all-counted) refl
       go false j = rw all-counted (unlisted (countsOf (ys w)) n (length (listing (ys w))) (length rs) (length ts) (length ls))
 
   -- a buffer is too short
-  pub lacking : {r : Reason} → f ≡ Short r → Served image rs ts ls listed rs ts ls (refused (numberOf r) 0)
-  lacking i = turned image rs ts ls listed _ 0 (rules image rs ts ls (ys w) (whole-verdict w) listed ∙ ap (left (ys w)) (sym lacks ∙ i))
+  pub lacking : {r : Reason} → f ≡ Short r → Served m image rs ts ls listed rs ts ls (refused (numberOf r) 0)
+  lacking i = turned m image rs ts ls listed _ 0 (rules m image rs ts ls (ys w) (whole-verdict w) listed ∙ ap (left (ys w)) (sym lacks ∙ i))
 
   module _ (i : f ≡ Enough) {rs′ ts′ : List ℕ} {d : Size} (x : Puts (ys w) rs ts (noSize false) rs′ ts′ d) where
     fitting : (recordSize * length (ys w) ≤ length rs) × (length (bytes (ys w)) ≤ length ts) × (listed ≡ true → length (listing (ys w)) ≤ length ls)
-    fitting = roomy image rs ts ls (ys w) (whole-verdict w) listed (sym lacks ∙ i)
+    fitting = roomy m image rs ts ls (ys w) (whole-verdict w) listed (sym lacks ∙ i)
 
-    ruled : ruling image rs ts (asked listed ls) ≡ printed (ys w)
-    ruled = rules image rs ts ls (ys w) (whole-verdict w) listed ∙ ap (left (ys w)) (sym lacks ∙ i)
+    ruled : ruling m image rs ts (asked listed ls) ≡ printed (ys w)
+    ruled = rules m image rs ts ls (ys w) (whole-verdict w) listed ∙ ap (left (ys w)) (sym lacks ∙ i)
 
     laid-records : rs′ ≡ overlaid (words 0 (ys w)) rs
     laid-records = x .records ∙ store-overlaid (words 0 (ys w)) rs (rw (words-length 0 (ys w)) (fitting .0))
@@ -288,12 +288,12 @@ module _ {image index ops : List ℕ} {q : Plan} (rs ts ls : List ℕ) (listed :
     tells = listable rs′ ts′ c (ys w) decodes all-counted (whole-fits w .lines)
 
     -- no listing is asked for
-    pub prints : listed ≡ false → Served image rs ts ls listed rs′ ts′ ls (done c (cond listed (some n) none))
+    pub prints : listed ≡ false → Served m image rs ts ls listed rs′ ts′ ls (done c (cond listed (some n) none))
     unfolding answer answerOf recordsAfter textsAfter bufferOf
     prints j = record { answers = rw (j, rw j at ruled, all-counted); records = rw ruled laid-records; texts = rw ruled laid-texts; listing = rw j refl }
 
     -- one is
-    pub lists : listed ≡ true → {ls′ : List ℕ} {k : ℕ} → Writes (listing (itemsIn rs′ ts′ (c .records))) (page ls 0) (page ls′ k) → Served image rs ts ls listed rs′ ts′ ls′ (done c (cond listed (some n) none))
+    pub lists : listed ≡ true → {ls′ : List ℕ} {k : ℕ} → Writes (listing (itemsIn rs′ ts′ (c .records))) (page ls 0) (page ls′ k) → Served m image rs ts ls listed rs′ ts′ ls′ (done c (cond listed (some n) none))
     unfolding answer answerOf recordsAfter textsAfter listingAfter bufferOf
     lists j o = record {
       answers = rw (j, rw j at ruled, line-counted j, all-counted);
@@ -303,8 +303,8 @@ module _ {image index ops : List ℕ} {q : Plan} (rs ts ls : List ℕ) (listed :
     }
 
 -- where there is room for all that an image may print
-module _ {image index ops : List ℕ} {q : Plan} {rs ts : List ℕ} (ls : List ℕ) {b : Bool} (a : Bool) {rs′ ts′ : List ℕ} (d : Size) {c : Count} (w : Whole image index ops q) (p : b ≡ ample image (length rs) (length ts)) (h : (not a && b) ≡ true) (x : Puts (ys w) rs ts (noSize false) rs′ ts′ d) (i : c ≡ countsWith d (q .runs)) where
-  pub prints-ample : (n : ℕ) → Served image rs ts ls a rs′ ts′ ls (done c (cond a (some n) none))
+module _ {m : Mode} {image index ops : List ℕ} {q : Plan} {rs ts : List ℕ} (ls : List ℕ) {b : Bool} (a : Bool) {rs′ ts′ : List ℕ} (d : Size) {c : Count} (w : Whole m image index ops q) (p : b ≡ ample image (length rs) (length ts)) (h : (not a && b) ≡ true) (x : Puts (ys w) rs ts (noSize false) rs′ ts′ d) (i : c ≡ countsWith d (q .runs)) where
+  pub prints-ample : (n : ℕ) → Served m image rs ts ls a rs′ ts′ ls (done c (cond a (some n) none))
   unfolding answer answerOf recordsAfter textsAfter bufferOf ample
   prints-ample n =
       let (u, v) = and-true (not a) b h in
@@ -312,7 +312,7 @@ module _ {image index ops : List ℕ} {q : Plan} {rs ts : List ℕ} (ls : List �
       let (f, g) = and-true (leb (recordSize * mostRecords image) (length rs)) (leb (39 * mostRecords image) (length ts)) (sym p ∙ v) in
       let k : recordSize * length (ys w) ≤ length rs = omega (arith, few-records w, leb-true (recordSize * mostRecords image) (length rs) f) in
       let l : length (bytes (ys w)) ≤ length ts = omega (arith, few-texts w, leb-true (39 * mostRecords image) (length ts) g) in
-      let r = rules-room image rs ts ls (ys w) (whole-verdict w) k l in
+      let r = rules-room m image rs ts ls (ys w) (whole-verdict w) k l in
       rw e (record {
         answers = rw (r, counted w false d (x .size) i) refl;
         records = rw r (x .records ∙ store-overlaid (words 0 (ys w)) rs (rw (words-length 0 (ys w)) k));
@@ -322,18 +322,18 @@ module _ {image index ops : List ℕ} {q : Plan} {rs ts : List ℕ} (ls : List �
 
 -- ---- the entries
 
-module _ {image rs ts ls rs′ ts′ ls′ : List ℕ} {listed : Bool} {a b : Answer} (h : Served image rs ts ls listed rs′ ts′ ls′ a) (i : b ≡ a) where
+module _ {m : Mode} {image rs ts ls rs′ ts′ ls′ : List ℕ} {listed : Bool} {a b : Answer} (h : Served m image rs ts ls listed rs′ ts′ ls′ a) (i : b ≡ a) where
   -- what holds of the buffers that come back with counts
-  holds : (c : Count) (n : Option ℕ) → b ≡ done c n → Answered image rs′ ts′ c
-  holds c n e = rw (h .records, h .texts) (answered image rs ts (asked listed ls) c n (sym (h .answers) ∙ sym i ∙ e))
+  holds : (c : Count) (n : Option ℕ) → b ≡ done c n → Answered m image rs′ ts′ c
+  holds c n e = rw (h .records, h .texts) (answered m image rs ts (asked listed ls) c n (sym (h .answers) ∙ sym i ∙ e))
 
   -- the clauses of the call that prints
-  pub stated : listed ≡ false → (b ≡ answer image rs ts none) × ((rs′ ≡ recordsAfter image rs ts none) × ((ts′ ≡ textsAfter image rs ts none) × ((c : Count) (n : Option ℕ) → b ≡ done c n → Answered image rs′ ts′ c)))
+  pub stated : listed ≡ false → (b ≡ answer m image rs ts none) × ((rs′ ≡ recordsAfter m image rs ts none) × ((ts′ ≡ textsAfter m image rs ts none) × ((c : Count) (n : Option ℕ) → b ≡ done c n → Answered m image rs′ ts′ c)))
   stated j = let k : asked listed ls ≡ none = rw j refl in (rw (← k) (i ∙ h .answers), (rw (← k) (h .records), (rw (← k) (h .texts), holds)))
 
   -- and of the one that lists
   pub stated-list : listed ≡ true
-      → (b ≡ answer image rs ts (some ls)) × ((rs′ ≡ recordsAfter image rs ts (some ls)) × ((ts′ ≡ textsAfter image rs ts (some ls)) × ((ls′ ≡ listingAfter image rs ts ls) × ((c : Count) (n : Option ℕ) → b ≡ done c n → Answered image rs′ ts′ c))))
+      → (b ≡ answer m image rs ts (some ls)) × ((rs′ ≡ recordsAfter m image rs ts (some ls)) × ((ts′ ≡ textsAfter m image rs ts (some ls)) × ((ls′ ≡ listingAfter m image rs ts ls) × ((c : Count) (n : Option ℕ) → b ≡ done c n → Answered m image rs′ ts′ c))))
   stated-list j = let k : asked listed ls ≡ some ls = rw j refl in (rw (← k) (i ∙ h .answers), (rw (← k) (h .records), (rw (← k) (h .texts), (h .listing ∙ rw j refl, holds))))
 
 -- the answer of the call that lists

@@ -8,7 +8,7 @@ use lib.Dec.{ltb, eqb}
 use lib.ListN.{length, length-append, drop, length-take, length-drop}
 use borrow.Author.Tests.{lt-ltb, eqb-true, leb-true}
 use Rattle.text.specs.Basic.{sum}
-use Rattle.items.specs.Item.{Item}
+use Rattle.items.specs.Item.{Item, Context}
 use Rattle.items.specs.Records.{bytesOf, bytes}
 use Rattle.items.proofs.Fits.{itemsOf}
 use Rattle.comments.specs.Comments.{comment}
@@ -96,10 +96,10 @@ sum-one [] = refl
 sum-one (x ∷ xs) = omega (arith, sum-one xs)
 
 -- the records of an image: at most 24 for each of its elements and 4 for each byte of its texts, also where the printing stops
-pub records-bound : {image : List ℕ} → Accepted image → length (itemsOf (sourceFile (treeOf image) 0)) ≤ 24 * countN image + 4 * countB image
-records-bound {image} a =
-    let b = bound (λ x. 1) 1 (λ x e. omega arith) (λ s. omega arith) (λ j s loc. omega (arith, sum-one (comment j s loc), comment-made j s loc .size)) (rising image) 0 in
-    omega (arith, b, sum-one (itemsOf (sourceFile (treeOf image) 0)), image-weight 1 a)
+pub records-bound : {image : List ℕ} → Accepted image → (c : Context) → length (itemsOf (sourceFile (treeOf image) c 0)) ≤ 24 * countN image + 4 * countB image
+records-bound {image} a c =
+    let b = bound (λ x. 1) 1 (λ x e. omega arith) (λ s. omega arith) (λ j s loc. omega (arith, sum-one (comment j s loc), comment-made j s loc .size)) (rising image) c 0 in
+    omega (arith, b, sum-one (itemsOf (sourceFile (treeOf image) c 0)), image-weight 1 a)
 
 bytes-excess : (xs : List Item) → length (bytes xs) ≤ 38 * length xs + sum excess xs
 unfolding bytes sum
@@ -107,7 +107,7 @@ bytes-excess [] = omega arith
 bytes-excess (x ∷ xs) = omega (arith, bytes-excess xs, length-append (bytesOf x) (bytes xs))
 
 -- the bytes of their texts: at most 38 for each record, and 4 for each byte of the image's texts, also where the printing stops
-pub texts-bound : {image : List ℕ} → Accepted image → let xs = itemsOf (sourceFile (treeOf image) 0) in length (bytes xs) ≤ 38 * length xs + 4 * countB image
-texts-bound {image} a =
-    let b = bound excess 0 (λ x e. omega (arith, leb-true (length (bytesOf x)) 38 e)) (λ s. omega arith) (λ j s loc. omega (arith, comment-made j s loc .long)) (rising image) 0 in
-    omega (arith, b, bytes-excess (itemsOf (sourceFile (treeOf image) 0)), image-weight 0 a)
+pub texts-bound : {image : List ℕ} → Accepted image → (c : Context) → let xs = itemsOf (sourceFile (treeOf image) c 0) in length (bytes xs) ≤ 38 * length xs + 4 * countB image
+texts-bound {image} a c =
+    let b = bound excess 0 (λ x e. omega (arith, leb-true (length (bytesOf x)) 38 e)) (λ s. omega arith) (λ j s loc. omega (arith, comment-made j s loc .long)) (rising image) c 0 in
+    omega (arith, b, bytes-excess (itemsOf (sourceFile (treeOf image) c 0)), image-weight 0 a)

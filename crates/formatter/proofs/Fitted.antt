@@ -4,7 +4,7 @@ use Prim.Native.Nat.{ℕ, _≤_, _<_, _^_}
 use native.Mathlib.Omega.{arith}
 use lib.ListN.{length, length-append}
 use Rattle.text.specs.Basic.{sum, All, ∅, _▹_}
-use Rattle.items.specs.Item.{always, lines, Item, signal, text, mark, run, runEnd, again, ifTest}
+use Rattle.items.specs.Item.{always, lines, Item, Context, signal, text, mark, run, runEnd, again, ifTest}
 use Rattle.items.specs.Role.{Role, stays, marks, opens, closes, repeats, role, isRun, isMark}
 use Rattle.items.specs.Records.{bytesOf, bytes}
 use Rattle.items.proofs.Fits.{Short, Fits, itemsOf}
@@ -54,13 +54,13 @@ sum-le f h [] = omega arith
 sum-le f h (x ∷ xs) = omega (arith, h (role x), sum-le f h xs)
 
 -- the items of an accepted image can be printed, also where the printing stops
-pub items-fit : {image : List ℕ} → Accepted image → Fits (itemsOf (sourceFile (treeOf image) 0))
-items-fit {image} a =
-    let xs = itemsOf (sourceFile (treeOf image) 0) in
-    let r = records-bound a in
-    let t = texts-bound a in
+pub items-fit : {image : List ℕ} → Accepted image → (c : Context) → Fits (itemsOf (sourceFile (treeOf image) c 0))
+items-fit {image} a c =
+    let xs = itemsOf (sourceFile (treeOf image) c 0) in
+    let r = records-bound a c in
+    let t = texts-bound a c in
     let u = sum-le isRun one-run xs in
-    let o = all-short (numbers-small (treeOf image)) (omega arith) (omega arith) in
+    let o = all-short (numbers-small (treeOf image) c) (omega arith) (omega arith) in
     record {
       operands = o;
       records = omega arith;

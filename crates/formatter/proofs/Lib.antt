@@ -7,6 +7,8 @@ mod Columns
 mod Counted
 mod Examples
 mod Fitted
+mod Kept
+mod Modes
 mod Numbers
 pub mod Responses
 mod Room

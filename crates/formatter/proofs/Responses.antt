@@ -10,6 +10,7 @@ use Rattle.listing.specs.Listing.{listing, refusedLine}
 use Rattle.listing.proofs.Refused.{refused-short}
 use Rattle.listing.specs.Writes.{page, Writes}
 use Rattle.listing.proofs.Writes.{kept}
+use Rattle.numbers.specs.declared.mode.Mode.{Mode}
 use Rattle.numbers.specs.declared.refusal.Refusal.{Refusal}
 use Rattle.items.specs.declared.Count.{Count}
 use Rattle.formatter.specs.declared.ListAnswer.{ListAnswer}
@@ -26,22 +27,22 @@ pub blank-long : (n : ℕ) → length (blank n) ≡ n
 unfolding blank
 blank-long n = length-replicate n 0
 
-module _ (image rs ts ls : List ℕ) (a : length rs ≡ recordSize * 5000) (b : length ts ≡ 32000) (c : length ls ≡ 65536) where
+module _ (o : Mode) (image rs ts ls : List ℕ) (a : length rs ≡ recordSize * 5000) (b : length ts ≡ 32000) (c : length ls ≡ 65536) where
   -- of buffers only the lengths are judged
-  as-judged : judged image ≡ ruling image rs ts (some ls)
+  as-judged : judged o image ≡ ruling o image rs ts (some ls)
   unfolding judged ruling withListing
-  as-judged = rw (blank-long, blank-long, a, b) (go (withRoom (recordSize * 5000) 32000 (verdict image)))
+  as-judged = rw (blank-long, blank-long, a, b) (go (withRoom (recordSize * 5000) 32000 (verdict o image)))
     where
       go : (v : Verdict) → withListing (some (blank 65536)) v ≡ withListing (some ls) v
       go (turnedAway n e) = refl
       go (printed xs) = rw (blank-long, c)
 
-  pub responds-listed : {out : List ℕ} {t : ListAnswer} {d : Count} {n : ℕ} → t ≡ Listed d n → replyListed t ≡ answer image rs ts (some ls) → out ≡ listingAfter image rs ts ls
-      → Responds image ls out (record { number = 0; bytes = n })
+  pub responds-listed : {out : List ℕ} {t : ListAnswer} {d : Count} {n : ℕ} → t ≡ Listed d n → replyListed t ≡ answer o image rs ts (some ls) → out ≡ listingAfter o image rs ts ls
+      → Responds o image ls out (record { number = 0; bytes = n })
   unfolding answer answerOf listingAfter bufferOf response printedOf numberIn
-  responds-listed {out} {t} {d} {n} i j k = go (ruling image rs ts (some ls)) as-judged (ap replyListed (sym i) ∙ j) k
+  responds-listed {out} {t} {d} {n} i j k = go (ruling o image rs ts (some ls)) as-judged (ap replyListed (sym i) ∙ j) k
     where
-      go : (v : Verdict) → judged image ≡ v → replyListed (Listed d n) ≡ answerOf (some ls) v → out ≡ bufferOf listing v ls → Responds image ls out (record { number = 0; bytes = n })
+      go : (v : Verdict) → judged o image ≡ v → replyListed (Listed d n) ≡ answerOf (some ls) v → out ≡ bufferOf listing v ls → Responds o image ls out (record { number = 0; bytes = n })
       go (turnedAway m e) q h w = absurd (let z : _≡_ {A = ℕ} 0 1 = cc in omega arith)
       go (printed xs) q h w =
           let l : n ≡ length (listing xs) = cc in
@@ -52,13 +53,13 @@ module _ (image rs ts ls : List ℕ) (a : length rs ≡ recordSize * 5000) (b : 
             inside = rw (w, length-append) (omega arith);
           }
 
-  pub responds-refused : {mid out : List ℕ} {t : ListAnswer} {f : Refusal} {n m : ℕ} → t ≡ Refused f → replyListed t ≡ answer image rs ts (some ls) → mid ≡ listingAfter image rs ts ls
+  pub responds-refused : {mid out : List ℕ} {t : ListAnswer} {f : Refusal} {n m : ℕ} → t ≡ Refused f → replyListed t ≡ answer o image rs ts (some ls) → mid ≡ listingAfter o image rs ts ls
       → n ≡ numberOf (f .reason) → n < 2 ^ 64 → f .element .0 < 2 ^ 64 → Writes (refusedLine n (f .element .0)) (page mid 0) (page out m)
-      → Responds image ls out (record { number = n; bytes = m })
+      → Responds o image ls out (record { number = n; bytes = m })
   unfolding answer answerOf listingAfter bufferOf response printedOf numberIn
-  responds-refused {mid} {out} {t} {f} {n} {m} i j k o p q w = go (ruling image rs ts (some ls)) as-judged (ap replyListed (sym i) ∙ j) k
+  responds-refused {mid} {out} {t} {f} {n} {m} i j k d p q w = go (ruling o image rs ts (some ls)) as-judged (ap replyListed (sym i) ∙ j) k
     where
-      go : (v : Verdict) → judged image ≡ v → replyListed (Refused f) ≡ answerOf (some ls) v → mid ≡ bufferOf listing v ls → Responds image ls out (record { number = n; bytes = m })
+      go : (v : Verdict) → judged o image ≡ v → replyListed (Refused f) ≡ answerOf (some ls) v → mid ≡ bufferOf listing v ls → Responds o image ls out (record { number = n; bytes = m })
       go (turnedAway x e) g h z =
           let s : n ≡ x = cc in
           let u : f .element .0 ≡ e = cc in
@@ -72,5 +73,5 @@ module _ (image rs ts ls : List ℕ) (a : length rs ≡ recordSize * 5000) (b : 
       go (printed xs) g h z = absurd (let z : _≡_ {A = ℕ} 0 1 = cc in omega arith)
 
 -- the bytes of the front are those that are printed
-pub front : {image entry exit : List ℕ} {r : Response} → Responds image entry exit r → take (r .bytes) exit ≡ response image
-front {image} {entry} h = rw (h .written) (take-at (response image) (drop (length (response image)) entry) _ (sym (h .counted)))
+pub front : {m : Mode} {image entry exit : List ℕ} {r : Response} → Responds m image entry exit r → take (r .bytes) exit ≡ response m image
+front {m} {image} {entry} h = rw (h .written) (take-at (response m image) (drop (length (response m image)) entry) _ (sym (h .counted)))

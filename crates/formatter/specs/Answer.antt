@@ -5,7 +5,8 @@ use mathlib.Core.List.{List}
 use Prim.Native.Nat.{ℕ, _*_}
 use lib.Dec.{ltb}
 use lib.ListN.{length}
-use Rattle.items.specs.Item.{Item, Out, stop, ok}
+use Rattle.numbers.specs.declared.mode.Mode.{Mode}
+use Rattle.items.specs.Item.{Item, Out, stop, ok, inMode}
 use Rattle.items.specs.Records.{words, bytes, countsOf, overlaid, recordSize}
 use Rattle.tree.specs.Tree.{treeOf}
 use Rattle.tree.specs.Refusal.{Refusal, refusal}
@@ -28,9 +29,9 @@ unfoldable pub fromTests : Option Refusal → Verdict → Verdict
 fromTests (some r) v = turnedAway (r .number) (r .element)
 fromTests none v = v
 
--- the tests 1 to 10 in order, which no buffer matters to
-unfoldable pub verdict : List ℕ → Verdict
-verdict image = fromTests (refusal image) (fromPrinting (sourceFile (treeOf image) 0))
+-- the tests 1 to 10 in order, which no buffer matters to, and the items that a mode prints
+unfoldable pub verdict : Mode → List ℕ → Verdict
+verdict m image = fromTests (refusal image) (fromPrinting (sourceFile (treeOf image) (inMode m) 0))
 
 -- 11: 'The record buffer is too short', by its words, three for each record; 12: 'The text buffer is too short'
 unfoldable pub withRoom : ℕ → ℕ → Verdict → Verdict
@@ -46,9 +47,9 @@ withListing none v = v
 withListing (some ls) (turnedAway n e) = turnedAway n e
 withListing (some ls) (printed xs) = cond (ltb (length ls) (length (listing xs))) (turnedAway 13 0) (printed xs)
 
--- the thirteen tests in order, for an image and the contents of the lent buffers at entry, that of the listing where one was asked for
-unfoldable pub ruling : List ℕ → List ℕ → List ℕ → Option (List ℕ) → Verdict
-ruling image rs ts ls = withListing ls (withRoom (length rs) (length ts) (verdict image))
+-- the thirteen tests in order, for a mode, an image and the contents of the lent buffers at entry, that of the listing where one was asked for
+unfoldable pub ruling : Mode → List ℕ → List ℕ → List ℕ → Option (List ℕ) → Verdict
+ruling m image rs ts ls = withListing ls (withRoom (length rs) (length ts) (verdict m image))
 
 -- 'the answer is the number and the first offending element'; 'Success gives records, text bytes, runs and marks, and for a listing its length'.
 pub data Answer : Type 0 where
@@ -66,8 +67,8 @@ answerOf ls (turnedAway n e) = refused n e
 answerOf ls (printed xs) = done (countsOf xs) (lengthOf ls xs)
 
 -- what a call answers
-unfoldable pub answer : List ℕ → List ℕ → List ℕ → Option (List ℕ) → Answer
-answer image rs ts ls = answerOf ls (ruling image rs ts ls)
+unfoldable pub answer : Mode → List ℕ → List ℕ → List ℕ → Option (List ℕ) → Answer
+answer m image rs ts ls = answerOf ls (ruling m image rs ts ls)
 
 -- 'Buffers are written only after all tests': a buffer begins with what is written and goes on as it was, or is as it was
 unfoldable pub bufferOf : (List Item → List ℕ) → Verdict → List ℕ → List ℕ
@@ -75,13 +76,13 @@ bufferOf f (turnedAway n e) buffer = buffer
 bufferOf f (printed xs) buffer = overlaid (f xs) buffer
 
 -- every word of the record buffer after a call
-unfoldable pub recordsAfter : List ℕ → List ℕ → List ℕ → Option (List ℕ) → List ℕ
-recordsAfter image rs ts ls = bufferOf (words 0) (ruling image rs ts ls) rs
+unfoldable pub recordsAfter : Mode → List ℕ → List ℕ → List ℕ → Option (List ℕ) → List ℕ
+recordsAfter m image rs ts ls = bufferOf (words 0) (ruling m image rs ts ls) rs
 
 -- every byte of the text buffer after a call
-unfoldable pub textsAfter : List ℕ → List ℕ → List ℕ → Option (List ℕ) → List ℕ
-textsAfter image rs ts ls = bufferOf bytes (ruling image rs ts ls) ts
+unfoldable pub textsAfter : Mode → List ℕ → List ℕ → List ℕ → Option (List ℕ) → List ℕ
+textsAfter m image rs ts ls = bufferOf bytes (ruling m image rs ts ls) ts
 
 -- every byte of the listing buffer after a call that asked for a listing
-unfoldable pub listingAfter : List ℕ → List ℕ → List ℕ → List ℕ → List ℕ
-listingAfter image rs ts ls = bufferOf listing (ruling image rs ts (some ls)) ls
+unfoldable pub listingAfter : Mode → List ℕ → List ℕ → List ℕ → List ℕ → List ℕ
+listingAfter m image rs ts ls = bufferOf listing (ruling m image rs ts (some ls)) ls

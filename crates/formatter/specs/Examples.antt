@@ -1,4 +1,4 @@
--- Document 01, 'Twelve kept examples', A to L in one list, and `[1]`, also from the bytes of its image to those of its listing.
+-- Document 01, 'Twelve kept examples', A to L in one list, and `[1]`, also from the bytes of its image to those of its listing. Document 02, Ask 1: trees in both modes.
 use mathlib.Core.Bool.{Bool, false, _&&_}
 use mathlib.Core.List.{List, [], _∷_, _++_, map, flatten}
 use Prim.Native.Nat.{ℕ, _*_, _/_, _%_}
@@ -6,6 +6,7 @@ use Prim.Native.String.{String}
 use lib.ListN.{length}
 use Rattle.text.specs.Basic.{ascii, sameBytes}
 use Rattle.items.specs.Item.{Test, always, lines, Item, text, newline, spaceOrNewline, mark, group, groupEnd, block, blockEnd, run, runEnd, again, ifTest, elseItem, endIf}
+use Rattle.numbers.specs.declared.mode.Mode.the-variants.{Plain, Keeping}
 use Rattle.items.specs.Records.{words, bytes}
 use Rattle.comments.specs.Comments
 use Rattle.comments.specs.Comments.{Location, aboveItem, itemInline}
@@ -47,7 +48,7 @@ pub record Example : Type 0 where
 -- what the definitions give for an example
 abbrev pub result : Source → Verdict
 result (comment k s loc) = printed (Comments.comment k (ascii s) loc)
-result (tree es) = verdict (imageOf es)
+result (tree es) = verdict Plain (imageOf es)
 
 -- two lists of items have the same records and texts
 abbrev pub sameItems : List Item → List Item → Bool
@@ -114,6 +115,51 @@ examples =
     ∷ ex "K, one newline" (array (number "1" ++ (token 94 3 "," ∷ token 64 3 "\n" ∷ number "2"))) (around always (t "1" ∷ t "," ∷ separator always ++ final "2" always))
     ∷ ex "L" (array (number "1" ++ (token 64 3 " " ∷ token 68 3 "# k\n" ∷ token 94 3 "," ∷ token 64 3 " " ∷ number "2")))
     (around always (t "1" ∷ t "," ∷ t " " ∷ t "# " ∷ t "k" ∷ separator always ++ final "2" always))
+    ∷ []
+
+-- A tree, and the items that each mode prints of it.
+pub record InBoth : Type 0 where
+  pub name : String
+  pub elements : List Entry
+  pub plain : List Item
+  pub kept : List Item
+
+-- the definitions give them
+abbrev pub passesBoth : InBoth → Bool
+passesBoth x = gives (verdict Plain (imageOf (x .elements))) (x .plain) && gives (verdict Keeping (imageOf (x .elements))) (x .kept)
+
+-- a source file that is an expression of these parts
+abbrev expression : List Entry → List Entry
+expression es = node 1 0 ∷ node 2 1 ∷ es
+
+-- `local NAME = NUMBER;`, and what it prints
+abbrev local : String → String → List Entry
+local name n =
+    node 22 2 ∷ token 105 3 "local" ∷ token 64 3 " " ∷ node 24 3 ∷ node 35 4 ∷ node 43 5 ∷ token 90 6 name
+    ∷ token 104 4 "=" ∷ node 2 4 ∷ node 8 5 ∷ token 87 6 n ∷ token 95 3 ";" ∷ []
+
+abbrev localItems : String → String → List Item
+localItems name n = t "local " ∷ t name ∷ t " = " ∷ t n ∷ t ";" ∷ newline ∷ []
+
+-- `NAME`
+abbrev name : String → List Entry
+name s = node 14 2 ∷ node 43 3 ∷ token 90 4 s ∷ []
+
+abbrev both : String → List Entry → List Item → List Item → InBoth
+both n es xs ys = record { name = n; elements = expression es; plain = xs; kept = ys }
+
+-- 'Purchasing writes replacement numbers above `local` lines'; inline trivia below its statement; trivia before a base, an error too; before a missing base; around a suffix
+unfoldable pub inBoth : List InBoth
+inBoth =
+    both "a replacement number" (local "probe" "1" ++ (token 64 2 "\n" ∷ token 68 2 "# part 4711\n" ∷ local "spare" "2" ++ (token 64 2 "\n" ∷ name "probe")))
+    (localItems "probe" "1" ++ (localItems "spare" "2" ++ (t "probe" ∷ newline ∷ [])))
+    (localItems "probe" "1" ++ (t "# " ∷ t "part 4711" ∷ newline ∷ localItems "spare" "2" ++ (t "probe" ∷ newline ∷ [])))
+    ∷ both "inline" (local "x" "1" ++ (token 64 2 " " ∷ token 65 2 "/*b*/" ∷ token 64 2 " " ∷ name "x"))
+    (localItems "x" "1" ++ (t "x" ∷ newline ∷ []))
+    (localItems "x" "1" ++ (t "/* " ∷ t "b" ∷ t " */" ∷ newline ∷ t "x" ∷ newline ∷ []))
+    ∷ both "before the base" (token 68 2 "# k\n" ∷ token 72 2 "e" ∷ name "x") (t "x" ∷ newline ∷ []) (t "# " ∷ t "k" ∷ newline ∷ t "e" ∷ t "x" ∷ newline ∷ [])
+    ∷ both "no base" (token 68 2 "# k\n" ∷ []) (t "/*missing ExprBase*/" ∷ newline ∷ []) (t "# " ∷ t "k" ∷ newline ∷ t "/*missing ExprBase*/" ∷ newline ∷ [])
+    ∷ both "a suffix" (name "x" ++ (token 68 2 "# k\n" ∷ node 18 2 ∷ node 43 3 ∷ token 90 4 "i" ∷ [])) (t "x" ∷ t "." ∷ t "i" ∷ newline ∷ []) (t "x" ∷ t "." ∷ t "i" ∷ newline ∷ [])
     ∷ []
 
 -- the image of `[1]`, byte for byte: 8 elements, and 3 bytes of text

@@ -7,4 +7,5 @@ pub mod Reply
 pub mod Answered
 pub mod Calls
 pub mod Program
+pub mod Kept
 pub mod Examples

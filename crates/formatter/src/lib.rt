@@ -3,7 +3,10 @@ pub mod program;
 mod serve;
 
 use items::Count;
+use numbers::mode::Mode;
 use numbers::refusal::Refusal;
+use serve::Wanted;
+use serve::serve;
 ghost use mathlib.Core.Path.{_≡_};
 ghost use mathlib.Core.Option.{none};
 ghost use Rattle.formatter.specs.Reply.{reply, replyListed};
@@ -21,15 +24,19 @@ pub enum ListAnswer {
     Listed { counts: Count, bytes: usize },
 }
 
-// Prints the source file of a tree image into the lent buffers, or says why not and leaves them as they are.
-pub fn print_items(image: &[u8], records: &mut [u32], texts: &mut [u8]) -> Answer
-    ensures { λ r. ⌜ reply r ≡ answerIn image records texts none ⌝ }
-    ensures { λ _. ⌜ now (records .exit) ≡ recordsIn image records texts none ⌝ }
-    ensures { λ _. ⌜ now (texts .exit) ≡ textsIn image records texts none ⌝ }
-    ensures { λ r. ⌜ AnsweredIn image records texts (reply r) ⌝ }
+// Prints the source file of a tree image in a mode into the lent buffers, or says why not and leaves them as they are.
+pub fn print_items(image: &[u8], mode: Mode, records: &mut [u32], texts: &mut [u8]) -> Answer
+    ensures { λ r. ⌜ reply r ≡ answerIn image mode records texts none ⌝ }
+    ensures { λ _. ⌜ now (records .exit) ≡ recordsIn image mode records texts none ⌝ }
+    ensures { λ _. ⌜ now (texts .exit) ≡ textsIn image mode records texts none ⌝ }
+    ensures { λ r. ⌜ AnsweredIn image mode records texts (reply r) ⌝ }
 {
     let mut unasked = [0u8; 0];
-    let a = serve::serve(image, records, texts, &mut unasked, false);
+    let wanted = Wanted {
+        mode,
+        listed: false,
+    };
+    let a = serve(image, records, texts, &mut unasked, wanted);
     match a {
         ListAnswer::Refused(r) => Answer::Refused(r),
         ListAnswer::Listed { counts, bytes: _ } => Answer::Printed(counts),
@@ -39,15 +46,17 @@ pub fn print_items(image: &[u8], records: &mut [u32], texts: &mut [u8]) -> Answe
 // The same, and writes the listing of what was printed into a third buffer.
 pub fn list_items(
     image: &[u8],
+    mode: Mode,
     records: &mut [u32],
     texts: &mut [u8],
     listing: &mut [u8],
 ) -> ListAnswer
-    ensures { λ r. ⌜ replyListed r ≡ answerIn image records texts (listed listing) ⌝ }
-    ensures { λ _. ⌜ now (records .exit) ≡ recordsIn image records texts (listed listing) ⌝ }
-    ensures { λ _. ⌜ now (texts .exit) ≡ textsIn image records texts (listed listing) ⌝ }
-    ensures { λ _. ⌜ now (listing .exit) ≡ listingIn image records texts listing ⌝ }
-    ensures { λ r. ⌜ AnsweredIn image records texts (replyListed r) ⌝ }
+    ensures { λ r. ⌜ replyListed r ≡ answerIn image mode records texts (listed listing) ⌝ }
+    ensures { λ _. ⌜ now (records .exit) ≡ recordsIn image mode records texts (listed listing) ⌝ }
+    ensures { λ _. ⌜ now (texts .exit) ≡ textsIn image mode records texts (listed listing) ⌝ }
+    ensures { λ _. ⌜ now (listing .exit) ≡ listingIn image mode records texts listing ⌝ }
+    ensures { λ r. ⌜ AnsweredIn image mode records texts (replyListed r) ⌝ }
 {
-    serve::serve(image, records, texts, listing, true)
+    let wanted = Wanted { mode, listed: true };
+    serve(image, records, texts, listing, wanted)
 }

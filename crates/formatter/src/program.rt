@@ -1,8 +1,9 @@
-// What the program of document 01 prints of a tree image.
+// What the program of document 01 prints of a tree image. The program stays in the plain mode.
 use crate::ListAnswer;
 use crate::list_items;
 use items::RECORD;
 use listing::write_refused;
+use numbers::mode::Mode;
 use numbers::refusal::number_of;
 ghost use Rattle.formatter.specs.Program.{Responds};
 
@@ -19,13 +20,13 @@ pub struct Response {
     pub bytes: usize,
 }
 
-// Writes the listing of an image, or the line of its refusal, to the front of a buffer.
-pub fn respond(image: &[u8], out: &mut [u8; LISTING_BYTES]) -> Response
-    ensures { λ r. ⌜ Responds (now (image .entry)) (now (out .entry)) (now (out .exit)) r ⌝ }
+// Writes the listing of an image in a mode, or the line of its refusal, to the front of a buffer.
+pub fn respond(image: &[u8], mode: Mode, out: &mut [u8; LISTING_BYTES]) -> Response
+    ensures { λ r. ⌜ Responds mode (now (image .entry)) (now (out .entry)) (now (out .exit)) r ⌝ }
 {
     let mut records = [0u32; WORDS];
     let mut texts = [0u8; TEXT_BYTES];
-    let a = list_items(image, &mut records, &mut texts, out);
+    let a = list_items(image, mode, &mut records, &mut texts, out);
     match a {
         ListAnswer::Refused(r) => {
             let reason = r.reason;

@@ -6,6 +6,7 @@ use items::Size;
 use listing::listing_length;
 use listing::write_listing;
 use numbers::Element;
+use numbers::mode::Mode;
 use numbers::refusal::Reason;
 use numbers::refusal::Refusal;
 use numbers::refusal::whole;
@@ -13,6 +14,7 @@ use plan::is_going;
 use plan::is_stopped;
 use plan::next_run;
 use plan::operations;
+use plan::set_mode;
 use plan::stopped_at;
 use plan::write::count_ops;
 use plan::write::write_ops;
@@ -56,6 +58,12 @@ const EACH_BYTE: usize = 4;
 // Bytes of text for each record, at most.
 const EACH_RECORD: usize = 39;
 
+// What a call asks for: a mode, and whether what is printed is listed.
+pub struct Wanted {
+    pub mode: Mode,
+    pub listed: bool,
+}
+
 // How many operations a plan has, and how many runs they begin.
 struct Plan {
     operations: usize,
@@ -87,9 +95,9 @@ pub fn serve(
     records: &mut [u32],
     texts: &mut [u8],
     listing: &mut [u8],
-    listed: bool,
+    wanted: Wanted,
 ) -> ListAnswer
-    ensures { λ r. ⌜ ServedIn image records texts listing listed r ⌝ }
+    ensures { λ r. ⌜ ServedIn image records texts listing wanted r ⌝ }
 {
     let t = tree::refusal(image);
     match t {
@@ -97,7 +105,7 @@ pub fn serve(
         Tested::Accepted {
             elements: _,
             bytes: _,
-        } => serve_passed(image, records, texts, listing, listed),
+        } => serve_passed(image, records, texts, listing, wanted),
     }
 }
 
@@ -107,17 +115,17 @@ fn serve_passed(
     records: &mut [u32],
     texts: &mut [u8],
     listing: &mut [u8],
-    listed: bool,
+    wanted: Wanted,
 ) -> ListAnswer
     requires { ⌜ refusal (now image) ≡ none ⌝ }
-    ensures { λ r. ⌜ ServedIn image records texts listing listed r ⌝ }
+    ensures { λ r. ⌜ ServedIn image records texts listing wanted r ⌝ }
 {
-    let a = attempt_sized(image, records, texts, listing, listed, SMALLEST);
+    let a = attempt_sized(image, records, texts, listing, wanted, SMALLEST);
     if let Attempt::Answered(r) = a {
         return r;
     }
     // The largest has room for every image, so that this one answers.
-    let b = attempt_sized(image, records, texts, listing, listed, LARGEST);
+    let b = attempt_sized(image, records, texts, listing, wanted, LARGEST);
     let Attempt::Answered(r) = b else {
         return ListAnswer::Refused(whole(Reason::RecordsTooShort));
     };
@@ -141,22 +149,22 @@ fn attempt_sized(
     records: &mut [u32],
     texts: &mut [u8],
     listing: &mut [u8],
-    listed: bool,
+    wanted: Wanted,
     size: usize,
 ) -> Attempt
     requires { ⌜ refusal (now image) ≡ none ⌝ }
     requires { ⌜ 1 ≤ size ⌝ }
-    ensures { λ r. ⌜ TriedIn size image records texts listing listed r ⌝ }
+    ensures { λ r. ⌜ TriedIn size image records texts listing wanted r ⌝ }
 {
     if size < LIKELY * (element_count(image) as usize) {
-        return attempt_sized(image, records, texts, listing, listed, NEXT_SIZE * size);
+        return attempt_sized(image, records, texts, listing, wanted, NEXT_SIZE * size);
     }
     match size {
-        SMALLEST => attempt_smallest(image, records, texts, listing, listed),
-        SMALL => attempt_small(image, records, texts, listing, listed),
-        MIDDLE => attempt_middle(image, records, texts, listing, listed),
-        LARGE => attempt_large(image, records, texts, listing, listed),
-        _ => attempt_largest(image, records, texts, listing, listed),
+        SMALLEST => attempt_smallest(image, records, texts, listing, wanted),
+        SMALL => attempt_small(image, records, texts, listing, wanted),
+        MIDDLE => attempt_middle(image, records, texts, listing, wanted),
+        LARGE => attempt_large(image, records, texts, listing, wanted),
+        _ => attempt_largest(image, records, texts, listing, wanted),
     }
 }
 
@@ -166,14 +174,14 @@ fn attempt_smallest(
     records: &mut [u32],
     texts: &mut [u8],
     listing: &mut [u8],
-    listed: bool,
+    wanted: Wanted,
 ) -> Attempt
     requires { ⌜ Sized (now image) 384 ⌝ }
-    ensures { λ r. ⌜ AttemptedIn 384 image records texts listing listed r ⌝ }
+    ensures { λ r. ⌜ AttemptedIn 384 image records texts listing wanted r ⌝ }
 {
     let mut table = [0u32; SMALLEST / INDEX_PART + ENTRY];
     let mut ops = [0u32; SMALLEST];
-    serve_in(image, &mut table, &mut ops, records, texts, listing, listed)
+    serve_in(image, &mut table, &mut ops, records, texts, listing, wanted)
 }
 
 // The same in small ones.
@@ -182,14 +190,14 @@ fn attempt_small(
     records: &mut [u32],
     texts: &mut [u8],
     listing: &mut [u8],
-    listed: bool,
+    wanted: Wanted,
 ) -> Attempt
     requires { ⌜ Sized (now image) 1536 ⌝ }
-    ensures { λ r. ⌜ AttemptedIn 1536 image records texts listing listed r ⌝ }
+    ensures { λ r. ⌜ AttemptedIn 1536 image records texts listing wanted r ⌝ }
 {
     let mut table = [0u32; SMALL / INDEX_PART + ENTRY];
     let mut ops = [0u32; SMALL];
-    serve_in(image, &mut table, &mut ops, records, texts, listing, listed)
+    serve_in(image, &mut table, &mut ops, records, texts, listing, wanted)
 }
 
 // The same in larger ones.
@@ -198,14 +206,14 @@ fn attempt_middle(
     records: &mut [u32],
     texts: &mut [u8],
     listing: &mut [u8],
-    listed: bool,
+    wanted: Wanted,
 ) -> Attempt
     requires { ⌜ Sized (now image) 6144 ⌝ }
-    ensures { λ r. ⌜ AttemptedIn 6144 image records texts listing listed r ⌝ }
+    ensures { λ r. ⌜ AttemptedIn 6144 image records texts listing wanted r ⌝ }
 {
     let mut table = [0u32; MIDDLE / INDEX_PART + ENTRY];
     let mut ops = [0u32; MIDDLE];
-    serve_in(image, &mut table, &mut ops, records, texts, listing, listed)
+    serve_in(image, &mut table, &mut ops, records, texts, listing, wanted)
 }
 
 // The same in still larger ones.
@@ -214,14 +222,14 @@ fn attempt_large(
     records: &mut [u32],
     texts: &mut [u8],
     listing: &mut [u8],
-    listed: bool,
+    wanted: Wanted,
 ) -> Attempt
     requires { ⌜ Sized (now image) 24576 ⌝ }
-    ensures { λ r. ⌜ AttemptedIn 24576 image records texts listing listed r ⌝ }
+    ensures { λ r. ⌜ AttemptedIn 24576 image records texts listing wanted r ⌝ }
 {
     let mut table = [0u32; LARGE / INDEX_PART + ENTRY];
     let mut ops = [0u32; LARGE];
-    serve_in(image, &mut table, &mut ops, records, texts, listing, listed)
+    serve_in(image, &mut table, &mut ops, records, texts, listing, wanted)
 }
 
 // The same in arrays for every image; the index of the largest image is no larger than in those before.
@@ -230,14 +238,14 @@ fn attempt_largest(
     records: &mut [u32],
     texts: &mut [u8],
     listing: &mut [u8],
-    listed: bool,
+    wanted: Wanted,
 ) -> Attempt
     requires { ⌜ Sized (now image) 24576 ⌝ }
-    ensures { λ r. ⌜ AttemptedIn 226305 image records texts listing listed r ⌝ }
+    ensures { λ r. ⌜ AttemptedIn 226305 image records texts listing wanted r ⌝ }
 {
     let mut table = [0u32; LARGE / INDEX_PART + ENTRY];
     let mut ops = [0u32; LARGEST];
-    serve_in(image, &mut table, &mut ops, records, texts, listing, listed)
+    serve_in(image, &mut table, &mut ops, records, texts, listing, wanted)
 }
 
 // The same in lent arrays.
@@ -248,12 +256,13 @@ fn serve_in(
     records: &mut [u32],
     texts: &mut [u8],
     listing: &mut [u8],
-    listed: bool,
+    wanted: Wanted,
 ) -> Attempt
     requires { ⌜ Ready (now image) (now table) ⌝ }
-    ensures { λ r. ⌜ AttemptedIn (length (now (ops .entry))) image records texts listing listed r ⌝ }
+    ensures { λ r. ⌜ AttemptedIn (length (now (ops .entry))) image records texts listing wanted r ⌝ }
 {
-    let outlook = plan_image(image, table, ops);
+    let mode = wanted.mode;
+    let outlook = plan_image(image, mode, table, ops);
     match outlook {
         Outlook::Stops(e) => Attempt::Answered(ListAnswer::Refused(Refusal {
             reason: Reason::Stopped,
@@ -267,19 +276,20 @@ fn serve_in(
             records,
             texts,
             listing,
-            listed,
+            wanted,
         )),
         Outlook::Full => Attempt::Full,
     }
 }
 
-// Writes the index of an image and the plan of its printing.
-fn plan_image(image: &[u8], table: &mut [u32], ops: &mut [u32]) -> Outlook
+// Writes the index of an image and the plan of its printing in a mode.
+fn plan_image(image: &[u8], mode: Mode, table: &mut [u32], ops: &mut [u32]) -> Outlook
     requires { ⌜ Ready (now image) (now table) ⌝ }
-    ensures { λ r. ⌜ Foresees (now (image .entry)) (now (table .exit)) (now (ops .exit)) r ⌝ }
+    ensures { λ r. ⌜ Foresees mode (now (image .entry)) (now (table .exit)) (now (ops .exit)) r ⌝ }
 {
     tree::index::index(image, table);
     let mut cells = [0u32; 8];
+    set_mode(&mut cells, mode);
     plan_source(ops, &mut cells, image, table);
     if is_stopped(cells) {
         return Outlook::Stops(stopped_at(&cells));
@@ -316,12 +326,13 @@ fn serve_planned(
     records: &mut [u32],
     texts: &mut [u8],
     listing: &mut [u8],
-    listed: bool,
+    wanted: Wanted,
 ) -> ListAnswer
-    requires { ⌜ Whole (now image) (now index) (now ops) plan ⌝ }
-    ensures { λ r. ⌜ ServedIn image records texts listing listed r ⌝ }
+    requires { ⌜ Whole (wanted .mode) (now image) (now index) (now ops) plan ⌝ }
+    ensures { λ r. ⌜ ServedIn image records texts listing wanted r ⌝ }
 {
     let n = plan.operations;
+    let listed = wanted.listed;
     if !listed & is_ample(image, records.len(), texts.len()) {
         let p = write_ops(records, texts, image, index, ops, n);
         return ListAnswer::Listed {

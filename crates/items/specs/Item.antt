@@ -1,10 +1,12 @@
--- Print items, and printing as a function of the next list's number.
+-- Print items, and printing as a function of its context and the next list's number.
 use mathlib.Core.Bool.{Bool, true, false, cond}
 use mathlib.Core.List.{List, [], _∷_, _++_}
 use Prim.Native.Nat.{ℕ, suc}
 use Prim.Native.String.{String}
 use lib.Dec.{eqb}
 use Rattle.text.specs.Basic.{ascii}
+use Rattle.numbers.specs.declared.mode.Mode.{Mode}
+use Rattle.numbers.specs.Mode.{keeps}
 use Rattle.items.specs.declared.Condition.{Condition}
 use Rattle.items.specs.declared.Condition.the-variants.{Always, Lines}
 use Rattle.items.specs.declared.Signal.{Signal}
@@ -107,9 +109,17 @@ pub data Out : Type 0 where
   stop : List Item → ℕ → Out
   ok : List Item → ℕ → Out
 
--- A printing, from the next list's number.
+-- What a printing reads and never changes: the mode in which it prints.
+pub record Context : Type 0 where
+  pub mode : Mode
+
+-- the context in which the printing of a file begins
+abbrev pub inMode : Mode → Context
+inMode m = record { mode = m }
+
+-- A printing in a context, from the next list's number.
 abbrev pub Print : Type 0
-Print = ℕ → Out
+Print = Context → ℕ → Out
 
 -- items in front of what a printing gives
 abbrev pub after : List Item → Out → Out
@@ -117,30 +127,30 @@ after xs (stop ys e) = stop (xs ++ ys) e
 after xs (ok ys k) = ok (xs ++ ys) k
 
 -- a printing behind what another has given
-abbrev pub next : Out → Print → Out
+abbrev pub next : Out → (ℕ → Out) → Out
 next (stop xs e) q = stop xs e
 next (ok xs k) q = after xs (q k)
 
 infixr 40 _⨟_
 -- one printing and then another
 unfoldable pub _⨟_ : Print → Print → Print
-_⨟_ p q k = next (p k) q
+_⨟_ p q c k = next (p c k) (q c)
 
 -- prints nothing
 unfoldable pub none : Print
-none k = ok [] k
+none c k = ok [] k
 
 -- prints one item
 unfoldable pub say : Item → Print
-say x k = ok (x ∷ []) k
+say x c k = ok (x ∷ []) k
 
 -- prints items
 unfoldable pub says : List Item → Print
-says xs k = ok xs k
+says xs c k = ok xs k
 
 -- stops at an element
 unfoldable pub stopped : ℕ → Print
-stopped e k = stop [] e
+stopped e c k = stop [] e
 
 -- prints a text that stands in the formatter itself: str(..)
 unfoldable pub lit : String → Print
@@ -151,14 +161,18 @@ unfoldable pub when : Bool → Print → Print
 when true p = p
 when false p = none
 
+-- prints only in the keeping mode
+unfoldable pub keeping : Print → Print
+keeping p c = when (keeps (c .mode)) p c
+
 -- a printing that knows the number of the list that it begins
 unfoldable pub withNumber : (ℕ → Print) → Print
-withNumber f k = f k k
+withNumber f c k = f k c k
 
 -- begins the run of the next list, and so takes its number
 unfoldable pub openRun : Print
-openRun k = ok (run k ∷ []) (suc k)
+openRun c k = ok (run k ∷ []) (suc k)
 
 -- a printing whose lists are numbered from n
 unfoldable pub startingAt : ℕ → Print → Print
-startingAt n p k = p n
+startingAt n p c k = p c n

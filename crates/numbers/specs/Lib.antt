@@ -1,2 +1,3 @@
 -- Definitions that the contracts cite.
+pub mod Mode
 pub mod Refusal

@@ -1,6 +1,7 @@
 // Numbers that several crates name, each in one place. Those of line marks, runs and elements have types of their own, so that
 // none is taken for another.
 pub mod kind;
+pub mod mode;
 pub mod refusal;
 pub mod wide;
 

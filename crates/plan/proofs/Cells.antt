@@ -1,7 +1,7 @@
 -- What stores to the cells and to the operations mean for what is seen.
 use mathlib.Core.Path.{_≡_, refl, sym, ap, _∙_}
 use mathlib.Core.Logic.{inl, inr, ⊎-elim}
-use mathlib.Core.Bool.{Bool, true, false, false≢true}
+use mathlib.Core.Bool.{Bool, true, false, cond, false≢true}
 use mathlib.Core.List.{List, [], _∷_, _++_, append-nil}
 use Prim.Native.Nat.{ℕ, zero, suc, _+_, _*_, _-_, _^_, _/_, _%_, _<_, _≤_, min}
 use native.Mathlib.Omega.{arith}
@@ -11,6 +11,8 @@ use lib.ListN.{length, length-append, getD, set, length-set}
 use lib.Seq.{getD-set-same, getD-set-other}
 use borrow.Author.Tests.{eqb-true, eqb-false}
 use Rattle.numbers.specs.declared.Mark.{Mark}
+use Rattle.numbers.specs.declared.mode.Mode.the-variants.{Plain, Keeping}
+use Rattle.numbers.specs.Mode.{keeps, modeAt}
 use Rattle.items.specs.declared.Condition.{Condition}
 use Rattle.items.specs.declared.Condition.the-variants.{Always, Lines}
 use Rattle.items.specs.declared.Signal.{Signal}
@@ -18,14 +20,14 @@ use Rattle.items.specs.declared.Signal.the-variants.{NewLine, SpaceOrNewLine, T
 use Rattle.text.specs.Basic.{isNil, sum}
 use Rattle.text.proofs.Lists.{sum-append}
 use Rattle.items.specs.Role.{role, isRun, runsOf}
-use Rattle.items.specs.Item.{lines, Item, Out, stop, ok, Print, mark, runEnd, again, say, says, openRun, stopped, run, ifTest, plainItem}
+use Rattle.items.specs.Item.{lines, Item, Out, stop, ok, Context, Print, mark, runEnd, again, say, says, openRun, stopped, run, ifTest, plainItem}
 use Rattle.items.specs.Item.{signal, signalKind, conditionTest}
 use Rattle.comments.specs.Comments.{Location, aboveItem, itemInline, endOfItems, comment}
 use Rattle.tree.specs.Index.{kindAt}
 use Rattle.plan.specs.Words.{wordCount}
 use Rattle.plan.specs.Ops.{Source, token, note, expand, opItems, coded, operandLimit, decoded, noteKind}
 use Rattle.plan.proofs.Laws.{seen-going, seen-still, going-full, ended-going, frame-none, frame-both, by}
-use Rattle.plan.specs.Plans.{full, planned, joined, planning, Held, held, status, count, nextRun, itemsAt, seen, itemsIn, Kept, Adds, Plans}
+use Rattle.plan.specs.Plans.{full, planned, joined, planning, Held, held, status, count, nextRun, contextAt, itemsAt, seen, itemsIn, Kept, Adds, Plans}
 use Rattle.plan.specs.Load.{numberIn, load, Carried}
 use Rattle.plan.proofs.Loads.{load-append, length-load, weigh-more}
 use Rattle.plan.proofs.Still.{comment-still}
@@ -102,7 +104,7 @@ module _ (s : Source) (ops cells : List ℕ) where
     more : (n op : ℕ) → n ≡ getD cells 2 0 → n < length ops → Adds s (says (opItems s op)) h (held (set ops n op) (set cells 2 (n + 1)))
     unfolding seen planning joined says
     more n op e m = record {
-      ran = λ l. record { got = inl (rw (other 2 (n + 1) 0 (λ w. omega arith), other 2 (n + 1) 3 (λ w. omega arith), at l, g, add-one n, decoded-more s ops n op m, ← e)) };
+      ran = λ l. record { got = inl (rw (other 2 (n + 1) 0 (λ w. omega arith), other 2 (n + 1) 3 (λ w. omega arith), other 2 (n + 1) 4 (λ w. omega arith), at l, g, add-one n, decoded-more s ops n op m, ← e)) };
       sameOps = length-set ops n op;
       frame = λ l. record {
         still = λ f. absurd (f g);
@@ -153,6 +155,16 @@ module _ (s : Source) (ops cells : List ℕ) where
         at : length cells ≡ 8 → getD (set (set cells 1 e) 0 1) 1 0 ≡ e
         at l = getD-set-other (set cells 1 e) 0 1 1 0 (λ w. omega arith) ∙ getD-set-same cells 1 e 0 (omega (arith, l))
 
+-- ---- the mode
+
+-- whether the mode with a number keeps
+pub keeps-by : (n : ℕ) → eqb n 1 ≡ keeps (modeAt n)
+keeps-by n = go (eqb n 1)
+  where
+    go : (b : Bool) → b ≡ keeps (cond b Keeping Plain)
+    go true = refl
+    go false = refl
+
 -- ---- runs
 
 -- the run of the next list, which is to be begun
@@ -190,6 +202,8 @@ module _ (s : Source) (ops cells : List ℕ) {k : ℕ} (g : getD cells 0 0 ≡ 0
             seen-going s (held (a .ops) (set (a .cells) 3 (k + 1))) (same 0 (λ w. omega arith) ∙ f),
             seen-going s o g,
             same 2 (λ w. omega arith),
+            same 4 (λ w. omega arith),
+            p .frame l .free 4 (omega arith),
             getD-set-same (a .cells) 3 (k + 1) 0 (omega (arith, l, p .frame l .sameCells)),
             i,
             add-one k,
@@ -286,7 +300,7 @@ abbrev Numbered : ℕ → Out → Type 0
 Numbered k (stop xs e) = Unit {0}
 Numbered k (ok xs n) = (n ≡ k + runsOf xs) × (1 ≤ length xs)
 
-plans : {s : Source} {q : Print} {o a : Held} → ((k : ℕ) → Numbered k (q k)) → Adds s q o a → Plans s q o a
+plans : {s : Source} {q : Print} {o a : Held} → ((c : Context) (k : ℕ) → Numbered k (q c k)) → Adds s q o a → Plans s q o a
 unfolding planning joined
 plans {s} {q} {o} {a} n h = record {
   ran = h .ran;
@@ -295,7 +309,7 @@ plans {s} {q} {o} {a} n h = record {
   tidy = λ k. let (r, f) = kept k (eqb (status o) 0) refl (eqb (status a) 0) refl in record { eight = h .frame (k .eight) .sameCells ∙ k .eight; runs = r; few = f };
 }
   where
-    more : count a ≤ suc (count o) → Kept s o → (x : Out) → Numbered (nextRun o) x → planned (itemsAt s a) (nextRun a) ≡ joined (itemsAt s o) x → (nextRun a ≡ runsOf (itemsAt s a)) × (count a ≤ length (itemsAt s a))
+    more : count a ≤ suc (count o) → Kept s o → (x : Out) → Numbered (nextRun o) x → planned (itemsAt s a) (contextAt a) (nextRun a) ≡ joined (itemsAt s o) (contextAt o) x → (nextRun a ≡ runsOf (itemsAt s a)) × (count a ≤ length (itemsAt s a))
     more l k (stop ys e) m d = absurd (let z : _≡_ {A = ℕ} 0 1 = cc in omega arith)
     more l k (ok ys i) m d =
         let x : itemsAt s a ≡ itemsAt s o ++ ys = cc in
@@ -307,19 +321,19 @@ plans {s} {q} {o} {a} n h = record {
     kept k true e false f = let (x, y, z) = h .none (eqb-false (status a) 0 f) in rw (x, y, z) (k .runs, k .few)
     kept k true e true f =
         let going = seen-going s a (eqb-true (status a) 0 f) in
-        ⊎-elim (λ d. more (h .one (k .eight)) k (q (nextRun o)) (n (nextRun o)) (sym going ∙ d ∙ ap (planning q) (seen-going s o (eqb-true (status o) 0 e)))) (λ d. absurd (going-full s a (eqb-true (status a) 0 f) (d .ends))) (h .ran (k .eight) .got)
+        ⊎-elim (λ d. more (h .one (k .eight)) k (q (contextAt o) (nextRun o)) (n (contextAt o) (nextRun o)) (sym going ∙ d ∙ ap (planning q) (seen-going s o (eqb-true (status o) 0 e)))) (λ d. absurd (going-full s a (eqb-true (status a) 0 f) (d .ends))) (h .ran (k .eight) .got)
 
 pub carried-planned : (s : Source) (k v : ℕ) {o a : Held} → Carried s k v → Adds s (says (expand s k v)) o a → Plans s (says (expand s k v)) o a
 unfolding says
-carried-planned s k v c h = plans (λ i. (omega (arith, c .calm), c .some)) h
+carried-planned s k v c h = plans (λ d i. (omega (arith, c .calm), c .some)) h
 
 pub open-planned : (s : Source) {o a : Held} → Adds s openRun o a → Plans s openRun o a
 unfolding openRun sum
-open-planned s h = plans (λ i. (omega arith, omega arith)) h
+open-planned s h = plans (λ c i. (omega arith, omega arith)) h
 
 pub stop-planned : (s : Source) (e : ℕ) {o a : Held} → Adds s (stopped e) o a → Plans s (stopped e) o a
 unfolding stopped
-stop-planned s e h = plans (λ i. tt) h
+stop-planned s e h = plans (λ c i. tt) h
 
 -- ---- operations by their kinds
 

@@ -7,7 +7,7 @@ use native.Mathlib.Omega.{arith}
 use lib.ListN.{length}
 use Rattle.items.specs.Item.{Print}
 use Rattle.plan.specs.Ops.{Source}
-use Rattle.plan.specs.Plans.{halted, full, planned, planning, Held, status, stoppedAt, nextRun, itemsAt, seen, itemsIn, Begins, Plans}
+use Rattle.plan.specs.Plans.{halted, full, planned, planning, Held, status, stoppedAt, nextRun, contextAt, itemsAt, seen, itemsIn, Begins, Plans}
 use Rattle.plan.proofs.Laws.{seen-going, seen-stopped, seen-full, going-full}
 
 module _ {s : Source} {q : Print} {o a : Held} (h : Plans s q o a) (eight : length (o .cells) ≡ 8) where
@@ -16,7 +16,7 @@ module _ {s : Source} {q : Print} {o a : Held} (h : Plans s q o a) (eight : leng
   handed-stop n = let e = h .frame eight .still n in (cc, cc)
 
   -- planning that goes on leaves all of the printing's items
-  pub going-leaves : status a ≡ 0 → planning q (seen s o) ≡ planned (itemsAt s a) (nextRun a)
+  pub going-leaves : status a ≡ 0 → planning q (seen s o) ≡ planned (itemsAt s a) (contextAt a) (nextRun a)
   going-leaves g = ⊎-elim (λ e. sym e ∙ seen-going s a g) (λ d. absurd (going-full s a g (d .ends))) (h .ran eight .got)
 
   -- a stop leaves those up to it, and its element

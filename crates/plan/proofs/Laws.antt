@@ -8,9 +8,10 @@ use native.Mathlib.Omega.{arith}
 use lib.Dec.{eqb}
 use lib.ListN.{length}
 use borrow.Author.Tests.{ne-eqb}
-use Rattle.items.specs.Item.{Item, Out, stop, ok, Print, after, next, _⨟_, none, withNumber}
+use Rattle.numbers.specs.Mode.{keeps}
+use Rattle.items.specs.Item.{Item, Out, stop, ok, Context, Print, after, next, _⨟_, none, when, keeping, withNumber}
 use Rattle.plan.specs.Ops.{Source}
-use Rattle.plan.specs.Plans.{Planned, halted, full, planned, joined, planning, Held, held, status, stoppedAt, nextRun, itemsAt, told, seen, itemsIn, Kept, Begins, Short, Reaches, Frame, Plans}
+use Rattle.plan.specs.Plans.{Planned, halted, full, planned, joined, planning, Held, held, status, stoppedAt, nextRun, contextAt, itemsAt, told, seen, itemsIn, Kept, Begins, Short, Reaches, Frame, Plans}
 use Rattle.plan.specs.Load.{load}
 use Rattle.plan.proofs.Loads.{load-append}
 
@@ -18,32 +19,32 @@ use Rattle.plan.proofs.Loads.{load-append}
 pub blank : Source
 blank = record { image = []; index = [] }
 
-joined-after : (xs ys : List Item) (o : Out) → joined xs (after ys o) ≡ joined (xs ++ ys) o
+joined-after : (xs ys : List Item) (c : Context) (o : Out) → joined xs c (after ys o) ≡ joined (xs ++ ys) c o
 unfolding joined
-joined-after xs ys (stop zs e) = rw (append-assoc xs ys zs)
-joined-after xs ys (ok zs k) = rw (append-assoc xs ys zs)
+joined-after xs ys c (stop zs e) = rw (append-assoc xs ys zs)
+joined-after xs ys c (ok zs k) = rw (append-assoc xs ys zs)
 
-joined-next : (xs : List Item) (o : Out) (q : Print) → joined xs (next o q) ≡ planning q (joined xs o)
+joined-next : (xs : List Item) (c : Context) (o : Out) (q : Print) → joined xs c (next o (q c)) ≡ planning q (joined xs c o)
 unfolding joined planning
-joined-next xs (stop ys e) q = refl
-joined-next xs (ok ys k) q = joined-after xs ys (q k)
+joined-next xs c (stop ys e) q = refl
+joined-next xs c (ok ys k) q = joined-after xs ys c (q c k)
 
 pub planning-seq : (p q : Print) (o : Planned) → planning (p ⨟ q) o ≡ planning q (planning p o)
 unfolding planning _⨟_
 planning-seq p q (halted xs e) = refl
 planning-seq p q (full xs) = refl
-planning-seq p q (planned xs k) = joined-next xs (p k) q
+planning-seq p q (planned xs c k) = joined-next xs c (p c k) q
 
 pub planning-none : (o : Planned) → planning none o ≡ o
 unfolding planning none joined
 planning-none (halted xs e) = refl
 planning-none (full xs) = refl
-planning-none (planned xs k) = rw (append-nil xs)
+planning-none (planned xs c k) = rw (append-nil xs)
 
 -- ---- what is seen, by the status
 
 module _ (s : Source) (h : Held) where
-  pub seen-going : status h ≡ 0 → seen s h ≡ planned (itemsAt s h) (nextRun h)
+  pub seen-going : status h ≡ 0 → seen s h ≡ planned (itemsAt s h) (contextAt h) (nextRun h)
   unfolding seen
   seen-going g = rw g
 
@@ -60,19 +61,19 @@ module _ (s : Source) (h : Held) where
   unfolding seen planning
   seen-still q n = rw (ne-eqb (status h) 0 n) (go (eqb (status h) 1))
     where
-      go : (b : Bool) → let x = told false b (itemsAt s h) (nextRun h) (stoppedAt h) in planning q x ≡ x
+      go : (b : Bool) → let x = told false b (itemsAt s h) (contextAt h) (nextRun h) (stoppedAt h) in planning q x ≡ x
       go true = refl
       go false = refl
 
   -- planning that goes on is not full, and only that is seen as planned
   pub going-full : status h ≡ 0 → {xs : List Item} → seen s h ≡ full xs → ⊥
-  going-full g {xs} e = let d : planned (itemsAt s h) (nextRun h) ≡ full xs = sym (seen-going g) ∙ e in let z : _≡_ {A = ℕ} 0 1 = cc in omega arith
+  going-full g {xs} e = let d : planned (itemsAt s h) (contextAt h) (nextRun h) ≡ full xs = sym (seen-going g) ∙ e in let z : _≡_ {A = ℕ} 0 1 = cc in omega arith
 
-  pub ended-going : (status h ≡ 0 → ⊥) → {xs : List Item} {k : ℕ} → seen s h ≡ planned xs k → ⊥
+  pub ended-going : (status h ≡ 0 → ⊥) → {xs : List Item} {c : Context} {k : ℕ} → seen s h ≡ planned xs c k → ⊥
   unfolding seen
-  ended-going n {xs} {k} e = go (eqb (status h) 1) (rw (ne-eqb (status h) 0 n) at e)
+  ended-going n {xs} {c} {k} e = go (eqb (status h) 1) (rw (ne-eqb (status h) 0 n) at e)
     where
-      go : (b : Bool) → told false b (itemsAt s h) (nextRun h) (stoppedAt h) ≡ planned xs k → ⊥
+      go : (b : Bool) → told false b (itemsAt s h) (contextAt h) (nextRun h) (stoppedAt h) ≡ planned xs c k → ⊥
       go true d = let z : _≡_ {A = ℕ} 0 1 = cc in omega arith
       go false d = let z : _≡_ {A = ℕ} 0 1 = cc in omega arith
 
@@ -119,9 +120,9 @@ pub planning-begins : (q : Print) (x : Planned) → Begins (itemsIn x) (itemsIn 
 unfolding planning joined
 planning-begins q (halted xs e) = record { more = []; is = sym (append-nil xs) }
 planning-begins q (full xs) = record { more = []; is = sym (append-nil xs) }
-planning-begins q (planned xs k) = go (q k)
+planning-begins q (planned xs c k) = go (q c k)
   where
-    go : (o : Out) → Begins xs (itemsIn (joined xs o))
+    go : (o : Out) → Begins xs (itemsIn (joined xs c o))
     go (stop ys e) = record { more = ys; is = refl }
     go (ok ys n) = record { more = ys; is = refl }
 
@@ -162,9 +163,13 @@ _▸_ {s} {p} {q} {o} {a} {b} h k = record {
 pub by : {s : Source} {p q : Print} {o a : Held} → p ≡ q → Plans s q o a → Plans s p o a
 by e h = rw e h
 
--- a planning that makes of everything what another makes of it
+-- a planning that makes of what is seen what another makes of it
+as-seen : {s : Source} (p q : Print) {o a : Held} → planning p (seen s o) ≡ planning q (seen s o) → Plans s q o a → Plans s p o a
+as-seen p q e h = record { ran = rw e (h .ran); sameOps = h .sameOps; frame = h .frame; tidy = h .tidy }
+
+-- the same of everything
 pub as-planned : {s : Source} (p q : Print) {o a : Held} → ((x : Planned) → planning p x ≡ planning q x) → Plans s q o a → Plans s p o a
-as-planned {s} p q {o} {a} e h = record { ran = rw (e (seen s o)) (h .ran); sameOps = h .sameOps; frame = h .frame; tidy = h .tidy }
+as-planned {s} p q {o} e h = as-seen p q (e (seen s o)) h
 
 -- where two ways meet: what an arm left is what stands there
 pub met : {s : Source} {p : Print} {o : Held} {xs xs′ cs cs′ : List ℕ} → xs ≡ xs′ → cs ≡ cs′ → Plans s p o (held xs′ cs′) → Plans s p o (held xs cs)
@@ -174,11 +179,30 @@ number-is : (f : ℕ → Print) (s : Source) (h : Held) → planning (withNumber
 unfolding seen planning withNumber
 number-is f s h = go (eqb (status h) 0) (eqb (status h) 1)
   where
-    go : (a b : Bool) → let x = told a b (itemsAt s h) (nextRun h) (stoppedAt h) in planning (withNumber f) x ≡ planning (f (nextRun h)) x
+    go : (a b : Bool) → let x = told a b (itemsAt s h) (contextAt h) (nextRun h) (stoppedAt h) in planning (withNumber f) x ≡ planning (f (nextRun h)) x
     go true b = refl
     go false true = refl
     go false false = refl
 
 -- a planner that has read the next list's number plans what knows it
 pub numbers : {s : Source} (f : ℕ → Print) {o a : Held} {k : ℕ} → k ≡ nextRun o → Plans s (f k) o a → Plans s (withNumber f) o a
-numbers {s} f {o} {a} {k} e h = record { ran = rw (number-is f s o, ← e) (h .ran); sameOps = h .sameOps; frame = h .frame; tidy = h .tidy }
+numbers {s} f {o} {a} {k} e h = as-seen (withNumber f) (f k) (number-is f s o ∙ rw (← e) refl) h
+
+keeping-is : (p : Print) (s : Source) (h : Held) → planning (keeping p) (seen s h) ≡ planning (when (keeps (contextAt h .mode)) p) (seen s h)
+unfolding seen planning keeping
+keeping-is p s h = go (eqb (status h) 0) (eqb (status h) 1)
+  where
+    go : (a b : Bool) → let x = told a b (itemsAt s h) (contextAt h) (nextRun h) (stoppedAt h) in planning (keeping p) x ≡ planning (when (keeps (contextAt h .mode)) p) x
+    go true b = refl
+    go false true = refl
+    go false false = refl
+
+-- a planner that has read the mode plans what is kept
+module _ {s : Source} (p : Print) {o : Held} {t : Bool} (i : t ≡ keeps (contextAt o .mode)) where
+  pub kept : t ≡ true → {a : Held} → Plans s p o a → Plans s (keeping p) o a
+  unfolding when
+  kept e h = as-seen (keeping p) p (keeping-is p s o ∙ rw (← i, e) refl) h
+
+  pub unkept : t ≡ false → Plans s (keeping p) o o
+  unfolding when
+  unkept e = as-seen (keeping p) none (keeping-is p s o ∙ rw (← i, e) refl) idle

@@ -7,27 +7,29 @@ use Prim.Native.Nat.{ℕ, suc, _-_, _^_, _<_, _≤_, min}
 use lib.Dec.{eqb}
 use lib.ListN.{length, getD}
 use Rattle.text.specs.Lent.{Lent}
-use Rattle.items.specs.Item.{Item, Out, stop, ok, Print}
+use Rattle.numbers.specs.declared.mode.Mode.{Mode}
+use Rattle.numbers.specs.Mode.{modeNumber, modeAt}
+use Rattle.items.specs.Item.{Item, Out, stop, ok, Context, Print}
 use Rattle.items.specs.Role.{runsOf}
 use Rattle.plan.specs.Ops.{Source, sourceAt, decoded}
 use Rattle.plan.specs.Load.{load}
 
--- How far planning has come: the items before the element at which it stopped, those before there was no room, or the items and the next list's number.
+-- How far planning has come: the items before the element at which it stopped, those before there was no room, or the items, the context and the next list's number.
 pub data Planned : Type 0 where
   halted : List Item → ℕ → Planned
   full : List Item → Planned
-  planned : List Item → ℕ → Planned
+  planned : List Item → Context → ℕ → Planned
 
 -- what a printing's items make of the items before them
-unfoldable pub joined : List Item → Out → Planned
-joined xs (stop ys e) = halted (xs ++ ys) e
-joined xs (ok ys k) = planned (xs ++ ys) k
+unfoldable pub joined : List Item → Context → Out → Planned
+joined xs c (stop ys e) = halted (xs ++ ys) e
+joined xs c (ok ys k) = planned (xs ++ ys) c k
 
 -- what a printing makes of what is planned
 unfoldable pub planning : Print → Planned → Planned
 planning q (halted xs e) = halted xs e
 planning q (full xs) = full xs
-planning q (planned xs k) = joined xs (q k)
+planning q (planned xs c k) = joined xs c (q c k)
 
 -- What a planner is handed and what it leaves: the operations, and the cells.
 pub record Held : Type 0 where
@@ -37,7 +39,7 @@ pub record Held : Type 0 where
 abbrev pub held : List ℕ → List ℕ → Held
 held ops cells = record { ops = ops; cells = cells }
 
--- the cells: status (0 going on, 1 stopped, else full), where it stopped, operations, the next list's number
+-- the cells: status (0 going on, 1 stopped, else full), where it stopped, operations, the next list's number, the mode's number
 abbrev pub status : Held → ℕ
 status h = getD (h .cells) 0 0
 
@@ -50,29 +52,32 @@ count h = getD (h .cells) 2 0
 abbrev pub nextRun : Held → ℕ
 nextRun h = getD (h .cells) 3 0
 
+abbrev pub contextAt : Held → Context
+contextAt h = record { mode = modeAt (getD (h .cells) 4 0) }
+
 -- before the first operation
-abbrev pub noCells : List ℕ
-noCells = 0 ∷ 0 ∷ 0 ∷ 0 ∷ 0 ∷ 0 ∷ 0 ∷ 0 ∷ []
+abbrev pub noCells : Mode → List ℕ
+noCells m = 0 ∷ 0 ∷ 0 ∷ 0 ∷ modeNumber m ∷ 0 ∷ 0 ∷ 0 ∷ []
 
 -- the items of the operations
 abbrev pub itemsAt : Source → Held → List Item
 itemsAt s h = decoded s (h .ops) (count h)
 
 -- what the cells say, where they say that planning goes on or stopped
-abbrev pub told : Bool → Bool → List Item → ℕ → ℕ → Planned
-told true b xs k e = planned xs k
-told false true xs k e = halted xs e
-told false false xs k e = full xs
+abbrev pub told : Bool → Bool → List Item → Context → ℕ → ℕ → Planned
+told true b xs c k e = planned xs c k
+told false true xs c k e = halted xs e
+told false false xs c k e = full xs
 
 -- what is seen of them
 unfoldable pub seen : Source → Held → Planned
-seen s h = told (eqb (status h) 0) (eqb (status h) 1) (itemsAt s h) (nextRun h) (stoppedAt h)
+seen s h = told (eqb (status h) 0) (eqb (status h) 1) (itemsAt s h) (contextAt h) (nextRun h) (stoppedAt h)
 
 -- the items of it
 abbrev pub itemsIn : Planned → List Item
 itemsIn (halted xs e) = xs
 itemsIn (full xs) = xs
-itemsIn (planned xs k) = xs
+itemsIn (planned xs c k) = xs
 
 -- What planners keep, at every end: there are eight cells, which is not known of lent ones; the next list's number is the number of
 -- runs; and there are no more operations than items.
@@ -106,7 +111,7 @@ pub record Frame (o a : Held) : Type 0 where
   pub before : (i : ℕ) → i < count o → getD (a .ops) i 0 ≡ getD (o .ops) i 0
   pub past : (i : ℕ) → count a ≤ i → getD (a .ops) i 0 ≡ getD (o .ops) i 0
   pub grown : count o ≤ count a
-  -- the element of a stop, where planning has not stopped; the free cells; the status is one of the three
+  -- the element of a stop, where planning has not stopped; the mode and the free cells; the status is one of the three
   pub unstopped : (status a ≡ 1 → ⊥) → stoppedAt a ≡ stoppedAt o
   pub free : (i : ℕ) → 4 ≤ i → getD (a .cells) i 0 ≡ getD (o .cells) i 0
   pub known : status o ≤ 2 → status a ≤ 2

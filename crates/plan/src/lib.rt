@@ -12,21 +12,26 @@ use items::signal_kind;
 use numbers::Element;
 use numbers::Mark;
 use numbers::Run;
+use numbers::mode::KEEPING;
+use numbers::mode::Mode;
+use numbers::mode::number_of;
 use tree::access::kind_at;
 use tree::access::text_at;
 ghost use mathlib.Core.Path.{_≡_};
 ghost use mathlib.Core.List.{List};
 ghost use Prim.Native.Nat.{ℕ, _<_};
 ghost use lib.Dec.{eqb};
-ghost use lib.ListN.{length, getD};
+ghost use lib.ListN.{length, getD, set};
 ghost use Rattle.items.specs.Item.{say, says, lit, openRun, stopped, text, signal, conditionTest, mark, runEnd, again, ifTest};
+ghost use Rattle.numbers.specs.Mode.{modeNumber, modeAt, keeps};
 ghost use Rattle.comments.specs.Place.{place};
 ghost use Rattle.plan.specs.Words.{wordAt, wordOrNone, wordCount};
 ghost use Rattle.plan.specs.Ops.{Source, token, note, noteKind, expand, opItems, operandLimit};
 ghost use Rattle.plan.specs.Load.{Carried};
 ghost use Rattle.plan.specs.Plans.{held, handed, left, sourceIn, Plans, PlansIn, PlansAny, AddsAny};
 
-// The cells: status, the element at which planning stopped, operations, the number of the next list. Four are free.
+// The cells: status, the element at which planning stopped, operations, the number of the next list, that of the mode. Three are
+// free.
 const STATUS: usize = 0;
 
 const STOP: usize = 1;
@@ -34,6 +39,8 @@ const STOP: usize = 1;
 const COUNT: usize = 2;
 
 const RUNS: usize = 3;
+
+const MODE: usize = 4;
 
 // The status.
 const GOING: u32 = 0;
@@ -115,6 +122,20 @@ fn note_kind(loc: CommentLocation) -> u32
         CommentLocation::ItemInline => NOTE_INLINE,
         CommentLocation::EndOfItems => NOTE_ENDING,
     }
+}
+
+// Chooses the mode, before the first operation.
+pub fn set_mode(cells: &mut [u32; 8], mode: Mode)
+    ensures { λ _. ⌜ now (cells .exit) ≡ set (now (cells .entry)) 4 (modeNumber mode) ⌝ }
+{
+    cells[MODE] = number_of(mode);
+}
+
+// Whether comments around statements are kept.
+pub fn is_keeping(cells: &[u32; 8]) -> bool
+    ensures { λ r. ⌜ r ≡ keeps (modeAt (getD (now (cells .entry)) 4 0)) ⌝ }
+{
+    cells[MODE] == KEEPING
 }
 
 // The number that the next list gets.

@@ -26,7 +26,7 @@ use Rattle.children.specs.Between.{Bounded}
 use Rattle.printer.specs.declared.lists.ListKind.{ListKind}
 use Rattle.printer.specs.declared.lists.Style.the-variants.{Elements, Arguments, Members, Specs, Binds}
 use Rattle.printer.specs.Combine.{newlineIf, testOf, ending}
-use Rattle.printer.specs.Print.{children, list, arguments, compOf, comprehension, localOf, valuesOf, expression}
+use Rattle.printer.specs.Print.{children, list, arguments, compOf, comprehension, localOf, statementsOf, valuesOf, expression}
 use Rattle.plan.specs.Words.{words, wordAt, Word, wordOrNone}
 use Rattle.printer.specs.Lists.{onLine, behindIt, endingOf, openList, closeList, closeArguments, openerOf, closerOf, childOf}
 use Rattle.printer.specs.Under.{partsOf}
@@ -127,10 +127,10 @@ plans-binds pr e t x h p₁ p₂ p₃ = by (ap (localOf pr) e ∙ local-many pr 
 
 pub plans-expr : {src : Source} {image index : List ℕ} (i : ℕ) (pr : ℕ → Print) (x : Option Part) {f : Option ℕ} {y z : Bounds} {h₀ h₁ h₂ h₃ : Held} → f ≡ numberOf x
     → Bounded image index (i + 1) (endAt index i) nothing f y → Bounded image index (i + 1) (endAt index i) f nothing z
-    → Plans src (valuesOf pr (readAt image index Class.Stmt y nothing)) h₀ h₁ → Plans src (numberOr pr (wordOrNone 14) f) h₁ h₂ → Plans src (valuesOf pr (readAt image index Class.Suffix z nothing)) h₂ h₃
+    → Plans src (statementsOf pr (readAt image index Class.Stmt y nothing)) h₀ h₁ → Plans src (numberOr pr (wordOrNone 14) f) h₁ h₂ → Plans src (valuesOf pr (readAt image index Class.Suffix z nothing)) h₂ h₃
     → Plans src (expression pr (partsOf image index i) x) h₀ h₃
 unfolding expression wordOrNone words
 plans-expr i pr x e b d p₁ p₂ p₃ =
-    by (ap (valuesOf pr) (b .read Class.Stmt nothing x nothing refl (sym e))) p₁
+    by (ap (statementsOf pr) (b .read Class.Stmt nothing x nothing refl (sym e))) p₁
     ▸ by (part-number pr _ x ∙ ap (numberOr pr _) (sym e)) p₂
     ▸ by (ap (valuesOf pr) (d .read Class.Suffix x nothing nothing (sym e) refl)) p₃

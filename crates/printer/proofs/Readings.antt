@@ -24,8 +24,8 @@ use Rattle.children.proofs.Whole.{whole}
 use Rattle.children.proofs.Stretch.{stretch-both}
 use Rattle.printer.specs.Print.{partOr, children}
 use Rattle.printer.specs.Under.{At, Kid}
-use Rattle.printer.specs.Walked.{walked}
-use Rattle.printer.proofs.Walked.{walk-read}
+use Rattle.printer.specs.Walked.{around, walked}
+use Rattle.printer.proofs.Walked.{children-turn, walk-read}
 use Rattle.printer.proofs.Under.{kid-of, kid-at}
 use Rattle.printer.specs.Reads.{numberOr, Within, readAt, Whole, kidsIn, Walks}
 
@@ -74,6 +74,6 @@ walks-next h e q k = record {
 
 -- the children of a reading, printed by a walk from its first gap
 pub items-walk : (c : Class) (pr : ℕ → Print) (f g : Bool → Print) {image index : List ℕ} {z : Bounds} {s : Span} → Spans image index (kinds c) (z .loose) false (z .from) (z .to) s
-    → Whole (readAt image index c z nothing) → children pr f g (kidsIn (readAt image index c z nothing)) ≡ walked pr f g (spanned image index (kinds c) (z .loose) (z .to) s)
+    → Whole (readAt image index c z nothing) → children pr f g (kidsIn (readAt image index c z nothing)) ≡ walked (around pr f g) (spanned image index (kinds c) (z .loose) (z .to) s)
 unfolding kidsIn
-items-walk c pr f g {z} h r = rw (r .is, ← (h .read)) (walk-read pr f g _ (sym (whole c (z .loose) _) ∙ r .is))
+items-walk c pr f g {z} h r = rw (r .is, ← (h .read)) (walk-read (children-turn pr f g) _ (sym (whole c (z .loose) _) ∙ r .is))

@@ -32,7 +32,7 @@ use Rattle.printer.specs.Print.{children, localOf}
 use Rattle.printer.specs.Under.{Kid}
 use Rattle.printer.specs.Walked.{around, walked, walkedAfter}
 use Rattle.printer.specs.Reads.{Within, Whole, readAt, kidsIn, Walks}
-use Rattle.printer.proofs.Walked.{foreign-read, walk-after, walk-lead, lead-none}
+use Rattle.printer.proofs.Walked.{foreign-read, children-turn, walk-after, walk-lead, lead-none}
 use Rattle.printer.proofs.Under.{kid-of}
 use Rattle.printer.proofs.Readings.{behind-kid}
 
@@ -102,19 +102,19 @@ module _ {image index : List ℕ} {i : ℕ} {w : Kinds} {z : Bounds} {s : Span} 
     after = rw k (sym (whole-after CompSpec (z .loose) ts _) ∙ r .is)
 
     -- all of them, walked
-    walked-specs : (pr : ℕ → Print) (f g : Bool → Print) → children pr f g (kidsIn (readAt image index CompSpec z (some ts))) ≡ walkedAfter pr f g ts (led image index w (z .loose) (z .to) s)
+    walked-specs : (pr : ℕ → Print) (f g : Bool → Print) → children pr f g (kidsIn (readAt image index CompSpec z (some ts))) ≡ walkedAfter (around pr f g) ts (led image index w (z .loose) (z .to) s)
     unfolding kidsIn
-    walked-specs pr f g = rw (r .is, ← (h .read)) (walk-after pr f g ts _ after)
+    walked-specs pr f g = rw (r .is, ← (h .read)) (walk-after (children-turn pr f g) ts _ after)
 
     -- there is none
     pub specs-none : (pr : ℕ → Print) (f g : Bool → Print) {t : Bool} → t ≡ isChild (s .end) → t ≡ false → children pr f g (kidsIn (readAt image index CompSpec z (some ts))) ≡ none
-    specs-none pr f g j e = walked-specs pr f g ∙ lead-none index image w (z .loose) (z .to) s pr j e f g ts
+    specs-none pr f g j e = walked-specs pr f g ∙ lead-none index image w (z .loose) (z .to) s (around pr f g) j e ts
 
     module _ {next : ℕ} {t : Span} (e : s .end ≡ End.Child) (q : next ≡ endAt index (s .to)) (p : Spans image index w (z .loose) true next (z .to) t) where
       -- the first, with the trailing list before it, and the others
       pub specs-some : (pr : ℕ → Print) (f g : Bool → Print)
-          → children pr f g (kidsIn (readAt image index CompSpec z (some ts))) ≡ around pr f g (gapOf [] ts false) (s .to) (gapAt image index t) (isChild (t .end)) ⨟ walked pr f g (spanned image index (kinds CompSpec) (z .loose) (z .to) t)
-      specs-some pr f g = walked-specs pr f g ∙ walk-lead s e q p pr f g ts ∙ rw k
+          → children pr f g (kidsIn (readAt image index CompSpec z (some ts))) ≡ around pr f g (gapOf [] ts false) (s .to) (gapAt image index t) (isChild (t .end)) ⨟ walked (around pr f g) (spanned image index (kinds CompSpec) (z .loose) (z .to) t)
+      specs-some pr f g = walked-specs pr f g ∙ walk-lead s e q p (around pr f g) ts ∙ rw k
 
       -- a walk over the others
       pub specs-walks : Walks image index i (kinds CompSpec) (z .loose) (z .to) t

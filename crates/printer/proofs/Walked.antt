@@ -20,9 +20,9 @@ use Rattle.children.specs.Gaps as G
 use Rattle.children.specs.Whole.{childAt, closedBy, preceded, readFrom, readingOf, sumsOf}
 use Rattle.children.specs.Lead.{childAfter, readingAfter, leadAt, led}
 use Rattle.children.specs.Spans.{gapAt, spanned, Spans, Outlines, surveyed}
-use Rattle.printer.specs.Print.{withComments, children, values}
+use Rattle.printer.specs.Print.{withComments, children, statement, statements, values}
 use Rattle.printer.proofs.Seq.{seq-assoc}
-use Rattle.printer.specs.Walked.{frontOf, hasChild, around, walked, walkedAfter, Outlined}
+use Rattle.printer.specs.Walked.{frontOf, hasChild, Turn, around, stated, alone, walked, walkedAfter, Outlined}
 
 pub foreign-read : {A : Type 0} {n : ℕ} {cs : List Child} {e : Ending} → foreign n ≡ read cs e → A
 foreign-read h = let z : _≡_ {A = ℕ} 0 1 = cc in absurd (omega arith)
@@ -45,59 +45,53 @@ more-from (G.stopped k n) c h = foreign-read h
 more-from (G.ending k) c {cs} h = let q : cs ≡ closedBy c k ∷ [] = cc in rw q
 more-from (G.Gaps.child k y gs) c h = rw (split (closedBy c k) (readFrom (childAt k y) gs) h .cons)
 
-module _ (pr : ℕ → Print) (f g : Bool → Print) where
-  -- a child, and those behind it
-  abbrev fromChild : Child → Gaps → Print
-  fromChild c gs = (withComments pr (closedBy c (frontOf gs)) (f (hasChild gs)) ⨟ g (hasChild gs)) ⨟ walked pr f g gs
+-- Children printed in turn: of a child and those behind it what `one` prints of it, which is its turn, and then those.
+pub record InTurn (F : List Child → Print) (turn : Turn) : Type 0 where
+  pub one : Child → Bool → Print
+  pub nil : F [] ≡ none
+  pub cons : (c : Child) (cs : List Child) → F (c ∷ cs) ≡ one c (more cs) ⨟ F cs
+  pub own : (k : Gap) (x : Part) (g : Gap) (m : Bool) → one (closedBy (childAt k x) g) m ≡ turn k (x .number) g m
+  pub led : (ts : List Part) (x : Part) (g : Gap) (m : Bool) → one (closedBy (childAfter ts x) g) m ≡ turn (gapOf [] ts false) (x .number) g m
 
+pub children-turn : (pr : ℕ → Print) (f g : Bool → Print) → InTurn (children pr f g) (around pr f g)
+unfolding children around withComments
+children-turn pr f g = record { one = λ c m. withComments pr c (f m) ⨟ g m; nil = refl; cons = λ c cs. sym (seq-assoc _ _ _); own = λ k x h m. refl; led = λ ts x h m. refl }
+
+pub statements-turn : (pr : ℕ → Print) → InTurn (statements pr) (stated pr)
+unfolding statements stated statement
+statements-turn pr = record { one = λ c m. statement pr c; nil = refl; cons = λ c cs. refl; own = λ k x h m. refl; led = λ ts x h m. refl }
+
+pub values-turn : (pr : ℕ → Print) → InTurn (values pr) (alone pr)
+unfolding values alone
+values-turn pr = record { one = λ c m. pr (c .value .number); nil = refl; cons = λ c cs. refl; own = λ k x h m. refl; led = λ ts x h m. refl }
+
+module _ {F : List Child → Print} {turn : Turn} (t : InTurn F turn) where
   -- the children from one on
-  from-read : (gs : Gaps) (c : Child) {cs : List Child} {e : Ending} → readFrom c gs ≡ read cs e → children pr f g cs ≡ fromChild c gs
-  unfolding readFrom children walked around withComments
+  from-read : (gs : Gaps) (c : Child) {cs : List Child} {e : Ending} → readFrom c gs ≡ read cs e → F cs ≡ t .one (closedBy c (frontOf gs)) (hasChild gs) ⨟ walked turn gs
+  unfolding readFrom walked
   from-read (G.stopped k n) c h = foreign-read h
-  from-read (G.ending k) c {cs} h = let q : cs ≡ closedBy c k ∷ [] = cc in rw q (sym (seq-assoc _ _ _))
+  from-read (G.ending k) c {cs} h = let q : cs ≡ closedBy c k ∷ [] = cc in rw (q, t .cons, t .nil)
   from-read (G.Gaps.child k y gs) c h =
       let s = split (closedBy c k) (readFrom (childAt k y) gs) h in
-      rw (s .cons, more-from gs (childAt k y) (s .is), from-read gs (childAt k y) (s .is)) (sym (seq-assoc _ _ _))
+      rw (s .cons, t .cons, more-from gs (childAt k y) (s .is), from-read gs (childAt k y) (s .is), t .own k y (frontOf gs) (hasChild gs))
 
   -- A reading's children are printed by walking its gaps.
-  pub walk-read : (gs : Gaps) {cs : List Child} {e : Ending} → readingOf gs ≡ read cs e → children pr f g cs ≡ walked pr f g gs
-  unfolding readingOf children walked around withComments
+  pub walk-read : (gs : Gaps) {cs : List Child} {e : Ending} → readingOf gs ≡ read cs e → F cs ≡ walked turn gs
+  unfolding readingOf walked
   walk-read (G.stopped k n) h = foreign-read h
-  walk-read (G.ending k) {cs} h = let q : cs ≡ [] = cc in rw q
-  walk-read (G.Gaps.child k x gs) h = from-read gs (childAt k x) h
+  walk-read (G.ending k) {cs} h = let q : cs ≡ [] = cc in rw (q, t .nil)
+  walk-read (G.Gaps.child k x gs) h = from-read gs (childAt k x) h ∙ rw (t .own k x (frontOf gs) (hasChild gs))
 
   -- And so are those of a reading with a trailing list.
-  pub walk-after : (ts : List Part) (gs : Gaps) {cs : List Child} {e : Ending} → readingAfter ts gs ≡ read cs e → children pr f g cs ≡ walkedAfter pr f g ts gs
-  unfolding readingAfter children walkedAfter around withComments
+  pub walk-after : (ts : List Part) (gs : Gaps) {cs : List Child} {e : Ending} → readingAfter ts gs ≡ read cs e → F cs ≡ walkedAfter turn ts gs
+  unfolding readingAfter walkedAfter
   walk-after ts (G.stopped k n) h = foreign-read h
-  walk-after ts (G.ending k) {cs} h = let q : cs ≡ [] = cc in rw q
+  walk-after ts (G.ending k) {cs} h = let q : cs ≡ [] = cc in rw (q, t .nil)
   walk-after ts (G.Gaps.child k x gs) {cs} {e} h = go (isNil (k .waiting)) h
     where
-      go : (t : Bool) → cond t (readFrom (childAfter ts x) gs) (foreign (x .number)) ≡ read cs e → children pr f g cs ≡ walkedAfter pr f g ts (G.Gaps.child k x gs)
-      go true h = from-read gs (childAfter ts x) h
+      go : (b : Bool) → cond b (readFrom (childAfter ts x) gs) (foreign (x .number)) ≡ read cs e → F cs ≡ turn (gapOf [] ts false) (x .number) (frontOf gs) (hasChild gs) ⨟ walked turn gs
+      go true h = from-read gs (childAfter ts x) h ∙ rw (t .led ts x (frontOf gs) (hasChild gs))
       go false h = foreign-read h
-
-module _ (pr : ℕ → Print) where
-  -- the children of a reading, without what is around them
-  unfoldable pub valued : Gaps → Print
-  valued (G.stopped k n) = none
-  valued (G.ending k) = none
-  valued (G.Gaps.child k x gs) = pr (x .number) ⨟ valued gs
-
-  from-value : (gs : Gaps) (c : Child) {cs : List Child} {e : Ending} → readFrom c gs ≡ read cs e → values pr cs ≡ pr (c .value .number) ⨟ valued gs
-  unfolding readFrom values valued
-  from-value (G.stopped k n) c h = foreign-read h
-  from-value (G.ending k) c {cs} h = let q : cs ≡ closedBy c k ∷ [] = cc in rw q
-  from-value (G.Gaps.child k y gs) c h =
-      let s = split (closedBy c k) (readFrom (childAt k y) gs) h in
-      rw (s .cons, from-value gs (childAt k y) (s .is))
-
-  -- A reading's children alone are those of its gaps.
-  pub value-read : (gs : Gaps) {cs : List Child} {e : Ending} → readingOf gs ≡ read cs e → values pr cs ≡ valued gs
-  unfolding readingOf values valued
-  value-read (G.stopped k n) h = foreign-read h
-  value-read (G.ending k) {cs} h = let q : cs ≡ [] = cc in rw q
-  value-read (G.Gaps.child k x gs) h = from-value gs (childAt k x) h
 
 module _ {index image : List ℕ} {o : Outline} {t : Bool} (i : t ≡ isForeign (o .last .end)) where
   -- a reading that ends is read
@@ -130,24 +124,18 @@ front-by End.Last a x gs = refl
 front-by End.Foreign a x gs = refl
 
 -- no child, no step
-module _ (pr : ℕ → Print) (a : Gap) (x : Part) (gs : Gaps) where
-  walk-by : (f g : Bool → Print) (d : End) → isChild d ≡ false → walked pr f g (endedBy d a x gs) ≡ none
+module _ (turn : Turn) (a : Gap) (x : Part) (gs : Gaps) where
+  walk-by : (d : End) → isChild d ≡ false → walked turn (endedBy d a x gs) ≡ none
   unfolding walked
-  walk-by f g End.Child h = absurd (false≢true (sym h))
-  walk-by f g End.Last h = refl
-  walk-by f g End.Foreign h = refl
+  walk-by End.Child h = absurd (false≢true (sym h))
+  walk-by End.Last h = refl
+  walk-by End.Foreign h = refl
 
-  value-by : (d : End) → isChild d ≡ false → valued pr (endedBy d a x gs) ≡ none
-  unfolding valued
-  value-by End.Child h = absurd (false≢true (sym h))
-  value-by End.Last h = refl
-  value-by End.Foreign h = refl
-
-  after-by : (f g : Bool → Print) (ts : List Part) (d : End) → isChild d ≡ false → walkedAfter pr f g ts (endedBy d a x gs) ≡ none
+  after-by : (ts : List Part) (d : End) → isChild d ≡ false → walkedAfter turn ts (endedBy d a x gs) ≡ none
   unfolding walkedAfter
-  after-by f g ts End.Child h = absurd (false≢true (sym h))
-  after-by f g ts End.Last h = refl
-  after-by f g ts End.Foreign h = refl
+  after-by ts End.Child h = absurd (false≢true (sym h))
+  after-by ts End.Last h = refl
+  after-by ts End.Foreign h = refl
 
 module _ (index image : List ℕ) (w : Kinds) (loose : Bool) (b : ℕ) (s : Span) where
   -- a span with a child
@@ -169,18 +157,14 @@ module _ (index image : List ℕ) (w : Kinds) (loose : Bool) (b : ℕ) (s : Span
   unfolding led
   led-opened e = rw e
 
-  module _ (pr : ℕ → Print) {t : Bool} (i : t ≡ isChild (s .end)) (h : t ≡ false) where
-    pub walk-none : (f g : Bool → Print) → walked pr f g (spanned image index w loose b s) ≡ none
+  module _ (turn : Turn) {t : Bool} (i : t ≡ isChild (s .end)) (h : t ≡ false) where
+    pub walk-none : walked turn (spanned image index w loose b s) ≡ none
     unfolding spanned
-    walk-none f g = walk-by pr _ _ _ f g (s .end) (sym i ∙ h)
+    walk-none = walk-by turn _ _ _ (s .end) (sym i ∙ h)
 
-    pub value-none : valued pr (spanned image index w loose b s) ≡ none
-    unfolding spanned
-    value-none = value-by pr _ _ _ (s .end) (sym i ∙ h)
-
-    pub lead-none : (f g : Bool → Print) (ts : List Part) → walkedAfter pr f g ts (led image index w loose b s) ≡ none
+    pub lead-none : (ts : List Part) → walkedAfter turn ts (led image index w loose b s) ≡ none
     unfolding led
-    lead-none f g ts = after-by pr _ _ _ f g ts (s .end) (sym i ∙ h)
+    lead-none ts = after-by turn _ _ _ ts (s .end) (sym i ∙ h)
 
 module _ {index image : List ℕ} {w : Kinds} {loose : Bool} {b next : ℕ} {t : Span} (s : Span) (e : s .end ≡ End.Child) (q : next ≡ endAt index (s .to)) (h : Spans image index w loose true next b t) where
   -- a span with a child, and the span behind that child
@@ -190,18 +174,13 @@ module _ {index image : List ℕ} {w : Kinds} {loose : Bool} {b next : ℕ} {t :
   led-stepped : led image index w loose b s ≡ G.Gaps.child (leadAt image index s) (partAt image index (s .to)) (spanned image index w loose b t)
   led-stepped = led-opened index image w loose b s e ∙ rw (← q, h .read)
 
-  -- a step without comments
-  pub value-next : (pr : ℕ → Print) → valued pr (spanned image index w loose b s) ≡ pr (s .to) ⨟ valued pr (spanned image index w loose b t)
-  unfolding valued
-  value-next pr = rw stepped
-
-  module _ (pr : ℕ → Print) (f g : Bool → Print) where
-    -- a step with comments
-    pub walk-next : walked pr f g (spanned image index w loose b s) ≡ around pr f g (gapAt image index s) (s .to) (gapAt image index t) (isChild (t .end)) ⨟ walked pr f g (spanned image index w loose b t)
+  module _ (turn : Turn) where
+    -- a step
+    pub walk-next : walked turn (spanned image index w loose b s) ≡ turn (gapAt image index s) (s .to) (gapAt image index t) (isChild (t .end)) ⨟ walked turn (spanned image index w loose b t)
     unfolding walked
     walk-next = rw (stepped, fronted index image w loose b t, tested index image w loose b t)
 
     -- the first step of a reading with a trailing list
-    pub walk-lead : (ts : List Part) → walkedAfter pr f g ts (led image index w loose b s) ≡ around pr f g (gapOf [] ts false) (s .to) (gapAt image index t) (isChild (t .end)) ⨟ walked pr f g (spanned image index w loose b t)
+    pub walk-lead : (ts : List Part) → walkedAfter turn ts (led image index w loose b s) ≡ turn (gapOf [] ts false) (s .to) (gapAt image index t) (isChild (t .end)) ⨟ walked turn (spanned image index w loose b t)
     unfolding walkedAfter
     walk-lead ts = rw (led-stepped, fronted index image w loose b t, tested index image w loose b t)

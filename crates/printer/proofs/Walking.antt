@@ -6,10 +6,12 @@ use mathlib.Core.List.{List, []}
 use Prim.Native.Nat.{ℕ, _-_, _<_, _≤_}
 use native.Mathlib.Omega.{arith}
 use lib.ListN.{length}
-use Rattle.items.specs.Item.{Test, Print, none, stopped}
+use Rattle.items.specs.Item.{Print, none, stopped, keeping}
+use Rattle.comments.specs.Comments.{endOfItems}
+use Rattle.plan.specs.Comments.{comments}
 use Rattle.plan.specs.Ops.{sourceAt}
 use Rattle.plan.specs.Plans.{Held, Plans}
-use Rattle.plan.proofs.Laws.{by}
+use Rattle.plan.proofs.Laws.{by, _▸_}
 use Rattle.tree.specs.declared.class.Class.{Class}
 use Rattle.tree.specs.declared.class.Kinds.{Kinds}
 use Rattle.tree.specs.Class.{kinds}
@@ -19,21 +21,19 @@ use Rattle.tree.proofs.Siblings.{parts-over}
 use Rattle.children.specs.declared.between.Bounds.{Bounds}
 use Rattle.children.specs.declared.gap.Span.{Span}
 use Rattle.children.specs.declared.survey.Outline.{Outline}
-use Rattle.children.specs.Reading.{Reading, foreign, read, pass}
+use Rattle.children.specs.Reading.{Child, Reading, foreign, read, pass}
 use Rattle.children.specs.Lead.{SurveyedAfter}
 use Rattle.children.specs.Gaps.{Gap, gapOf, isChild, isForeign}
 use Rattle.children.specs.Spans.{Lies, Spans, Surveyed, spanned, gapAt}
 use Rattle.children.proofs.Uses.{child-is, span-reached, survey-reading, survey-after-reading}
 use Rattle.children.proofs.Whole.{whole}
 use Rattle.children.proofs.Stretch.{jumps-le}
-use Rattle.printer.specs.declared.lists.Style.{Style}
-use Rattle.printer.specs.Print.{values, valuesOf}
-use Rattle.printer.specs.Lists.{onLine, behindIt}
-use Rattle.printer.proofs.Seq.{Goes, goes-none, goes-more, goes-all}
+use Rattle.printer.specs.Print.{statements, statementsOf, values, valuesOf}
+use Rattle.printer.proofs.Seq.{none-first, keeping-none, Goes, goes-none, goes-more, goes-all}
 use Rattle.printer.specs.Under.{under, printOf}
-use Rattle.printer.specs.Walked.{around, walked, Outlined}
+use Rattle.printer.specs.Walked.{Turn, around, stated, alone, walked, Outlined}
 use Rattle.printer.specs.Reads.{Within, Whole, readAt, kidsIn, Walks}
-use Rattle.printer.proofs.Walked.{valued, outlined, outlined-foreign, walk-next, walk-none, value-next, value-none, value-read}
+use Rattle.printer.proofs.Walked.{InTurn, statements-turn, values-turn, outlined, outlined-foreign, walk-next, walk-none, walk-read}
 use Rattle.printer.proofs.Under.{kid-print, kid-at}
 use Rattle.printer.proofs.Readings.{walks-first, walks-kid, walks-next}
 
@@ -97,65 +97,82 @@ module _ {image index : List ℕ} {i : ℕ} {w : Kinds} {loose : Bool} {b next :
       let p = table (h .at .indexed) .past (s .to) (kid-at (walks-kid h d) .within) in
       omega (arith, h .onward d, jumps-le (r .table) (r .jumps))
 
--- ---- children with what stands around them
+-- ---- children in turn
 
 -- The children from the gap s on are still to be printed, of those from the gap s₀ on.
-pub record Walking (image index : List ℕ) (i : ℕ) (w : Kinds) (loose : Bool) (b : ℕ) (style : Style) (t : Test) (s₀ : Span) (o a : Held) (s : Span) : Type 0 where
+pub record Walking (image index : List ℕ) (i : ℕ) (w : Kinds) (loose : Bool) (b : ℕ) (turn : Turn) (s₀ : Span) (o a : Held) (s : Span) : Type 0 where
   pub walks : Walks image index i w loose b s
-  pub goes : Goes (sourceAt image index) (walked (under image i) (onLine style t) (behindIt style t) (spanned image index w loose b s₀)) (walked (under image i) (onLine style t) (behindIt style t) (spanned image index w loose b s)) o a
+  pub goes : Goes (sourceAt image index) (walked turn (spanned image index w loose b s₀)) (walked turn (spanned image index w loose b s)) o a
 
-module _ {image index : List ℕ} {i : ℕ} {w : Kinds} {loose : Bool} {b : ℕ} {style : Style} {t : Test} {s : Span} {o : Held} where
-  pub walking-none : (c : Class) → w ≡ kinds c → Walks image index i (kinds c) loose b s → Walking image index i w loose b style t s o o s
+module _ {image index : List ℕ} {i : ℕ} {w : Kinds} {loose : Bool} {b : ℕ} {turn : Turn} {s : Span} {o : Held} where
+  pub walking-none : (c : Class) → w ≡ kinds c → Walks image index i (kinds c) loose b s → Walking image index i w loose b turn s o o s
   walking-none c k h = record { walks = rw k h; goes = goes-none _ o }
 
-  pub walking-more : {s₀ g : Span} {a d : Held} {next : ℕ} {v : Bool} → Walking image index i w loose b style t s₀ o a s → v ≡ isChild (s .end) → v ≡ true → next ≡ endAt index (s .to) → Spans image index w loose true next b g
-      → Plans (sourceAt image index) (around (under image i) (onLine style t) (behindIt style t) (gapAt image index s) (s .to) (gapAt image index g) (isChild (g .end))) a d → Walking image index i w loose b style t s₀ o d g
+  pub walking-more : {s₀ g : Span} {a d : Held} {next : ℕ} {v : Bool} → Walking image index i w loose b turn s₀ o a s → v ≡ isChild (s .end) → v ≡ true → next ≡ endAt index (s .to) → Spans image index w loose true next b g
+      → Plans (sourceAt image index) (turn (gapAt image index s) (s .to) (gapAt image index g) (isChild (g .end))) a d → Walking image index i w loose b turn s₀ o d g
   walking-more h j e q k p =
       let d = child-is (s .end) j e in
-      record {
-        walks = walks-next (h .walks) d q k;
-        goes = goes-more (h .goes) (walk-next s d q k (under image i) (onLine style t) (behindIt style t)) p;
-      }
+      record { walks = walks-next (h .walks) d q k; goes = goes-more (h .goes) (walk-next s d q k turn) p }
 
-  pub walking-all : (c : Class) {s₀ : Span} {a : Held} {v : Bool} → w ≡ kinds c → Walking image index i w loose b style t s₀ o a s → v ≡ isChild (s .end) → v ≡ false
-      → Plans (sourceAt image index) (walked (under image i) (onLine style t) (behindIt style t) (spanned image index (kinds c) loose b s₀)) o a
-  walking-all c k h j e = rw (← k) (goes-all (h .goes) (walk-none index image w loose b s (under image i) j e (onLine style t) (behindIt style t)))
+  pub walking-all : (c : Class) {s₀ : Span} {a : Held} {v : Bool} → w ≡ kinds c → Walking image index i w loose b turn s₀ o a s → v ≡ isChild (s .end) → v ≡ false
+      → Plans (sourceAt image index) (walked turn (spanned image index (kinds c) loose b s₀)) o a
+  walking-all c k h j e = rw (← k) (goes-all (h .goes) (walk-none index image w loose b s turn j e))
 
--- ---- children without what stands around them
+-- ---- statements and suffixes
+
+-- the first gap of a reading
+module _ {image index : List ℕ} {w : Kinds} {z : Bounds} {s : Span} {o : Held} where
+  pub walking-first : (c : Class) {i : ℕ} {turn : Turn} → Within image index i z → w ≡ kinds c → Spans image index w (z .loose) false (z .from) (z .to) s → Walking image index i w (z .loose) (z .to) turn s o o s
+  walking-first c h k p = walking-none c k (walks-first c h (rw k at p))
 
 -- The values from the gap s on are still to be printed, of those from the gap s₀ on, whatever element the reading is of.
 pub record Valuing (image index : List ℕ) (w : Kinds) (z : Bounds) (s₀ : Span) (o a : Held) (s : Span) : Type 0 where
-  pub walks : {i : ℕ} → Within image index i z → Walks image index i w (z .loose) (z .to) s
-  pub goes : {i : ℕ} → Within image index i z
-      → Goes (sourceAt image index) (valued (under image i) (spanned image index w (z .loose) (z .to) s₀)) (valued (under image i) (spanned image index w (z .loose) (z .to) s)) o a
+  pub walking : {i : ℕ} → Within image index i z → Walking image index i w (z .loose) (z .to) (alone (under image i)) s₀ o a s
 
 module _ {image index : List ℕ} {w : Kinds} {z : Bounds} {s : Span} {o : Held} where
   pub valuing-none : (c : Class) → w ≡ kinds c → Spans image index w (z .loose) false (z .from) (z .to) s → Valuing image index w z s o o s
-  valuing-none c k p = record { walks = λ h. rw k (walks-first c h (rw k at p)); goes = λ h. goes-none _ o }
+  valuing-none c k p = record { walking = λ h. walking-first c h k p }
 
   pub valuing-more : {s₀ g : Span} {a d : Held} {next : ℕ} {v : Bool} → Valuing image index w z s₀ o a s → v ≡ isChild (s .end) → v ≡ true → next ≡ endAt index (s .to)
       → Spans image index w (z .loose) true next (z .to) g → Plans (sourceAt image index) (printOf image (s .to)) a d → Valuing image index w z s₀ o d g
-  valuing-more r j e q k p =
-      let d = child-is (s .end) j e in
-      record {
-        walks = λ h. walks-next (r .walks h) d q k;
-        goes = λ h. goes-more (r .goes h) (value-next s d q k (under image _)) (by (kid-print (walks-kid (r .walks h) d)) p);
-      }
+  unfolding alone
+  valuing-more r j e q k p = record { walking = λ h. walking-more (r .walking h) j e q k (by (kid-print (walks-kid (r .walking h .walks) (child-is (s .end) j e))) p) }
 
-  -- the values of a reading
-  pub valuing-all : (c : Class) {i : ℕ} {s₀ : Span} {a : Held} {out : Outline} {v : Bool} → Within image index i z → w ≡ kinds c → Spans image index w (z .loose) false (z .from) (z .to) s₀
+-- the children of a reading, walked from its first gap
+walked-read : {F : List Child → Print} {turn : Turn} (t : InTurn F turn) (c : Class) {image index : List ℕ} {w : Kinds} {z : Bounds} {s : Span} {out : Outline} → w ≡ kinds c → Spans image index w (z .loose) false (z .from) (z .to) s
+    → (x : Outlined image index (readAt image index c z nothing) out) → F (x .kids) ≡ walked turn (spanned image index (kinds c) (z .loose) (z .to) s)
+walked-read t c {z = z} k p x = walk-read t _ (sym (whole c (z .loose) _) ∙ x .is) ∙ rw (← k, p .read)
+
+module _ {image index : List ℕ} {i : ℕ} {w : Kinds} {z : Bounds} {s s₀ : Span} {o a : Held} {out : Outline} {v : Bool} where
+  -- the suffixes of a reading
+  pub valuing-all : (c : Class) → Within image index i z → w ≡ kinds c → Spans image index w (z .loose) false (z .from) (z .to) s₀
       → Outlined image index (readAt image index c z nothing) out → Valuing image index w z s₀ o a s → v ≡ isChild (s .end) → v ≡ false → Plans (sourceAt image index) (valuesOf (under image i) (readAt image index c z nothing)) o a
   unfolding valuesOf
-  valuing-all c {i} n k p x h j e =
-      by (rw (x .is, value-read (under image i) _ (sym (whole c (z .loose) _) ∙ x .is), ← k, p .read))
-      (goes-all (h .goes n) (value-none index image w (z .loose) (z .to) s (under image i) j e))
+  valuing-all c n k p x h j e = by (rw (x .is) (walked-read (values-turn (under image i)) c k p x)) (walking-all c k (h .walking n) j e)
+
+  -- the statements of a reading, and what is left behind them
+  pub stating-all : (c : Class) → w ≡ kinds c → Spans image index w (z .loose) false (z .from) (z .to) s₀
+      → Outlined image index (readAt image index c z nothing) out → Walking image index i w (z .loose) (z .to) (stated (under image i)) s₀ o a s → v ≡ isChild (s .end) → v ≡ false
+      → {d : Held} → Plans (sourceAt image index) (keeping (comments (gapAt image index (out .last) .waiting) endOfItems)) a d → Plans (sourceAt image index) (statementsOf (under image i) (readAt image index c z nothing)) o d
+  unfolding statementsOf
+  stating-all c k p x h j e q = by (rw (x .is, x .waits, walked-read (statements-turn (under image i)) c k p x)) (walking-all c k h j e ▸ q)
 
 -- no element
-pub values-over : (pr : ℕ → Print) (c : Class) (index image : List ℕ) (z : Bounds) → z .to ≤ z .from → valuesOf pr (readAt image index c z nothing) ≡ none
-unfolding valuesOf values pass
-values-over pr c index image z h = rw (parts-over index image (z .from) (z .to) h)
+module _ (pr : ℕ → Print) (c : Class) (index image : List ℕ) (z : Bounds) (h : z .to ≤ z .from) where
+  pub values-over : valuesOf pr (readAt image index c z nothing) ≡ none
+  unfolding valuesOf values pass
+  values-over = rw (parts-over index image (z .from) (z .to) h)
+
+  pub statements-over : statementsOf pr (readAt image index c z nothing) ≡ none
+  unfolding statementsOf statements pass comments
+  statements-over = rw (parts-over index image (z .from) (z .to) h, keeping-none, none-first)
 
 -- a foreign element
-pub values-foreign : (pr : ℕ → Print) {r : Reading} {n : ℕ} → r ≡ foreign n → valuesOf pr r ≡ stopped n
-unfolding valuesOf
-values-foreign pr e = rw e
+module _ (pr : ℕ → Print) {r : Reading} {n : ℕ} (e : r ≡ foreign n) where
+  pub values-foreign : valuesOf pr r ≡ stopped n
+  unfolding valuesOf
+  values-foreign = rw e
+
+  pub statements-foreign : statementsOf pr r ≡ stopped n
+  unfolding statementsOf
+  statements-foreign = rw e

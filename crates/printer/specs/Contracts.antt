@@ -33,7 +33,7 @@ use Rattle.plan.specs.Words.{wordAt}
 use Rattle.printer.specs.Rows.{wantAt}
 use Rattle.printer.specs.Lists.{onLine, behindIt, following, endingOf, openerOf, closerOf, childOf, emptyText, openText, closeText}
 use Rattle.printer.specs.Under.{under, partsOf}
-use Rattle.printer.specs.Walked.{around, walked}
+use Rattle.printer.specs.Walked.{around, stated, walked}
 use Rattle.printer.specs.Reads.{numberOr, readAt}
 
 -- ---- what is read
@@ -99,12 +99,16 @@ childrenIn image i style t cs = children (underIn image i) (onLine style (condit
 -- the same by a walk from the gap s on
 abbrev pub walkedIn : Lent → Lent → ℕ → Style → Condition → Class → Bool → ℕ → Span → Print
 walkedIn image index i style t c loose b s =
-    walked (underIn image i) (onLine style (conditionTest t)) (behindIt style (conditionTest t)) (spanned (image .entry .now) (index .entry .now) (kinds c) loose b s)
+    walked (around (underIn image i) (onLine style (conditionTest t)) (behindIt style (conditionTest t))) (spanned (image .entry .now) (index .entry .now) (kinds c) loose b s)
 
 -- the child j of element i between the gaps s and g
 abbrev pub aroundIn : Lent → Lent → ℕ → Style → Condition → Span → ℕ → Span → Print
 aroundIn image index i style t s j g =
     around (underIn image i) (onLine style (conditionTest t)) (behindIt style (conditionTest t)) (gapIn image index s) j (gapIn image index g) (isChild (g .end))
+
+-- the statement j of element i between the gaps s and g
+abbrev pub statedIn : Lent → Lent → ℕ → Span → ℕ → Span → Print
+statedIn image index i s j g = stated (underIn image i) (gapIn image index s) j (gapIn image index g) (isChild (g .end))
 
 -- what follows a child, with the gap g behind it
 abbrev pub followingIn : Lent → Lent → Style → Condition → Span → Print

@@ -6,7 +6,7 @@ use Prim.Native.Nat.{ℕ, _*_}
 use Prim.Native.String.{String}
 use lib.Dec.{leb, eqb}
 use Rattle.text.specs.Basic.{ascii, isNil}
-use Rattle.items.specs.Item.{Test, lines, text, newline, indent, outdent, block, blockEnd, runEnd, again, Print, _⨟_, none, say, stopped, lit, when, openRun, signal}
+use Rattle.items.specs.Item.{Test, lines, text, newline, indent, outdent, block, blockEnd, runEnd, again, Print, _⨟_, none, say, stopped, lit, when, keeping, openRun, signal}
 use Rattle.printer.specs.Combine.{newlineIf, either, onlyIf, grouped, comma, separator, ending, testOf, bracketed}
 use Rattle.comments.specs.Comments.{aboveItem, itemInline, endOfItems}
 use Rattle.tree.specs.Tree.{Forest, nil, tree, Part, texts, parts}
@@ -122,12 +122,27 @@ module _ (pr : ℕ → Print) where
 
   -- EXPRESSIONS
 
-  -- 'Comments around a statement or suffix of an Expr are read and not printed'
+  -- a statement: 'Comments around a statement .. of an Expr are read and not printed'; in the keeping mode 'an Expr prints each statement's before-trivia above it, its inline trivia
+  -- after it at the end-of-items place'
+  unfoldable pub statement : Child → Print
+  statement c = keeping (comments (c .before) aboveItem) ⨟ pr (c .value .number) ⨟ keeping (comments (c .inline) endOfItems)
+
+  -- statements in turn; 'blank lines around statements, are still dropped'
+  unfoldable pub statements : List Child → Print
+  statements [] = none
+  statements (c ∷ cs) = statement c ⨟ statements cs
+
+  -- the statements of a reading, 'and the trivia left before the base expression at the same place before that base (or its missing text)'
+  unfoldable pub statementsOf : Reading → Print
+  statementsOf (foreign n) = stopped n
+  statementsOf (read cs e) = statements cs ⨟ keeping (comments (e .trivia) endOfItems)
+
+  -- suffixes in turn: 'Comments around a .. suffix of an Expr are read and not printed', in the keeping mode too: 'Suffix comments .. are still dropped'
   unfoldable pub values : List Child → Print
   values [] = none
   values (c ∷ cs) = pr (c .value .number) ⨟ values cs
 
-  -- the children of a reading without their comments
+  -- the suffixes of a reading
   unfoldable pub valuesOf : Reading → Print
   valuesOf (foreign n) = stopped n
   valuesOf (read cs e) = values cs
@@ -135,7 +150,7 @@ module _ (pr : ℕ → Print) where
   -- `Expr::print`: statements, the expression at its base, suffixes
   unfoldable pub expression : List Part → Option Part → Print
   expression ps base =
-      valuesOf (between Class.Stmt nothing base nothing ps)
+      statementsOf (between Class.Stmt nothing base nothing ps)
       ⨟ partOr (lit "/*missing ExprBase*/") base
       ⨟ valuesOf (between Class.Suffix base nothing nothing ps)
 

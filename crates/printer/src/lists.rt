@@ -10,6 +10,7 @@ use items::Signal;
 use numbers::Mark;
 use numbers::Run;
 use plan::end_run;
+use plan::is_keeping;
 use plan::notes::plan_inline;
 use plan::notes::plan_waiting;
 use plan::open_run;
@@ -33,8 +34,10 @@ ghost use mathlib.Core.Bool.{false, not, _&&_};
 ghost use Prim.Native.Nat.{_+_, _*_, _<_};
 ghost use lib.Dec.{eqb};
 ghost use Rattle.text.specs.Basic.{isNil};
-ghost use Rattle.items.specs.Item.{newline, indent, outdent, _⨟_, say, lit, when, conditionTest};
+ghost use Rattle.items.specs.Item.{newline, indent, outdent, _⨟_, say, lit, when, keeping, conditionTest};
 ghost use Rattle.children.specs.Spans.{Lies};
+ghost use Rattle.comments.specs.Place.{place};
+ghost use Rattle.plan.specs.Comments.{comments};
 ghost use Rattle.plan.specs.Words.{wordAt, Word, wordCount};
 ghost use Rattle.plan.specs.Plans.{PlansIn, PlansAny};
 ghost use Rattle.printer.specs.Combine.{newlineIf, onlyIf, comma, separator, ending, testOf};
@@ -134,6 +137,40 @@ pub fn plan_above(ops: &mut [u32], cells: &mut [u32; 8], image: &[u8], index: &[
     let blank = blank_line(image, index, s);
     newline_if(ops, cells, blank);
     plan_waiting(ops, cells, image, index, s, CommentLocation::AboveItem);
+}
+
+// What waits in a gap, if it is kept.
+pub fn keep_waiting(
+    ops: &mut [u32],
+    cells: &mut [u32; 8],
+    image: &[u8],
+    index: &[u32],
+    s: Span,
+    loc: CommentLocation,
+)
+    requires { ⌜ Lies (now image) (now index) s ⌝ }
+    ensures { λ _. ⌜ PlansIn ops cells image index (keeping (comments (gapIn image index s .waiting) (place loc))) ⌝ }
+{
+    if is_keeping(cells) {
+        plan_waiting(ops, cells, image, index, s, loc);
+    }
+}
+
+// The inline trivia of a gap, if it is kept.
+pub fn keep_inline(
+    ops: &mut [u32],
+    cells: &mut [u32; 8],
+    image: &[u8],
+    index: &[u32],
+    g: Span,
+    loc: CommentLocation,
+)
+    requires { ⌜ Lies (now image) (now index) g ⌝ }
+    ensures { λ _. ⌜ PlansIn ops cells image index (keeping (comments (gapIn image index g .inline) (place loc))) ⌝ }
+{
+    if is_keeping(cells) {
+        plan_inline(ops, cells, image, index, g, loc);
+    }
 }
 
 // What follows a child, with the gap behind it.

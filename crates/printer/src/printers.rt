@@ -10,6 +10,8 @@ use super::lists::close_word;
 use super::lists::closer;
 use super::lists::empty_word;
 use super::lists::is_empty;
+use super::lists::keep_inline;
+use super::lists::keep_waiting;
 use super::lists::newline_if;
 use super::lists::open_binds;
 use super::lists::open_list;
@@ -72,7 +74,7 @@ ghost use Prim.Native.Nat.{_<_};
 ghost use lib.ListN.{length};
 ghost use Rattle.items.specs.Item.{newline, _⨟_, say, lit};
 ghost use Rattle.tree.specs.Answer.{found};
-ghost use Rattle.tree.specs.declared.class.Class.the-variants.{ExprBase, Arg, LParen, RParen, Member, CompSpec, Bind, Local, Semi};
+ghost use Rattle.tree.specs.declared.class.Class.the-variants.{ExprBase, Stmt, Suffix, Arg, LParen, RParen, Member, CompSpec, Bind, Local, Semi};
 ghost use Rattle.tree.specs.Class.{kinds, first};
 ghost use Rattle.tree.specs.Index.{kindAt};
 ghost use Rattle.children.specs.Reading.{enclosed};
@@ -81,12 +83,12 @@ ghost use Rattle.plan.specs.Words.{wordOrNone, wordCount};
 ghost use Rattle.plan.specs.Plans.{PlansIn};
 ghost use Rattle.printer.specs.declared.lists.Style.the-variants.{Specs};
 ghost use Rattle.printer.specs.Layout.{layout};
-ghost use Rattle.printer.specs.Print.{what, row, children, list, arguments, compOf, comprehension, localOf, valuesOf, expression};
+ghost use Rattle.printer.specs.Print.{what, row, children, list, arguments, compOf, comprehension, localOf, statementsOf, valuesOf, expression};
 ghost use Rattle.printer.specs.Rows.{pieceAt, tested, wantCount, pieceCount, Marks};
 ghost use Rattle.printer.specs.Under.{At, Kid, printOf, partsOf};
 ghost use Rattle.printer.specs.Walked.{Outlined};
 ghost use Rattle.printer.specs.Reads.{numberOr, Has, Within, readAt, Whole, kidsIn, Walks};
-ghost use Rattle.printer.specs.Contracts.{trailingIn, partsIn, underIn, readIn, partIn, pieceIn, eachIn, childrenIn, walkedIn, aroundIn, listIn};
+ghost use Rattle.printer.specs.Contracts.{trailingIn, partsIn, underIn, readIn, partIn, pieceIn, eachIn, childrenIn, walkedIn, aroundIn, statedIn, listIn};
 
 // Element i.
 fn node(ops: &mut [u32], cells: &mut [u32; 8], image: &[u8], index: &[u32], i: Element)
@@ -226,28 +228,65 @@ fn expr(ops: &mut [u32], cells: &mut [u32; 8], image: &[u8], index: &[u32], i: E
     let b = end_at(index, i.0);
     let y = bounds_between(image, index, Found::Nothing, base, a, b);
     let z = bounds_between(image, index, base, Found::Nothing, a, b);
-    values(ops, cells, image, index, i, Class::Stmt, y);
+    stmts(ops, cells, image, index, i, y);
     part(ops, cells, image, index, i, base, words::MISSING_EXPR_BASE);
-    values(ops, cells, image, index, i, Class::Suffix, z);
+    values(ops, cells, image, index, i, z);
 }
 
-// The children of a reading of element i, without their comments. Most readings have no element.
-fn values(
+// The statements of a reading of element i, with the comments that are kept. Most readings have no element.
+fn stmts(ops: &mut [u32], cells: &mut [u32; 8], image: &[u8], index: &[u32], i: Element, z: Bounds)
+    requires { ⌜ Within (now image) (now index) (i .0) z ⌝ }
+    ensures { λ _. ⌜ PlansIn ops cells image index (statementsOf (underIn image (i .0)) (readIn image index Stmt z none)) ⌝ }
+{
+    if z.to <= z.from {
+        return;
+    }
+    let w = kinds_of(Class::Stmt);
+    let o = survey(image, index, w, z.loose, z.from, z.to);
+    if is_stopped(o) {
+        stop_at(cells, Element(o.last.to));
+        return;
+    }
+    let mut s = gap(image, index, w, z.loose, false, z.from, z.to);
+    while at_child(s) {
+        let g = gap(image, index, w, z.loose, true, end_at(index, s.to), z.to);
+        stmt(ops, cells, image, index, i, s, Element(s.to), g);
+        s = g;
+    }
+    let last = o.last;
+    keep_waiting(ops, cells, image, index, last, CommentLocation::EndOfItems);
+}
+
+// Statement j of element i, with the gaps before and behind it.
+fn stmt(
     ops: &mut [u32],
     cells: &mut [u32; 8],
     image: &[u8],
     index: &[u32],
     i: Element,
-    c: Class,
-    z: Bounds,
+    s: Span,
+    j: Element,
+    g: Span,
 )
+    requires { ⌜ Kid (now image) (now index) (i .0) (j .0) ⌝ }
+    requires { ⌜ Lies (now image) (now index) s ⌝ }
+    requires { ⌜ Lies (now image) (now index) g ⌝ }
+    ensures { λ _. ⌜ PlansIn ops cells image index (statedIn image index (i .0) s (j .0) g) ⌝ }
+{
+    keep_waiting(ops, cells, image, index, s, CommentLocation::AboveItem);
+    node(ops, cells, image, index, j);
+    keep_inline(ops, cells, image, index, g, CommentLocation::EndOfItems);
+}
+
+// The suffixes of a reading of element i, without their comments. Most readings have no element.
+fn values(ops: &mut [u32], cells: &mut [u32; 8], image: &[u8], index: &[u32], i: Element, z: Bounds)
     requires { ⌜ Within (now image) (now index) (i .0) z ⌝ }
-    ensures { λ _. ⌜ PlansIn ops cells image index (valuesOf (underIn image (i .0)) (readIn image index c z none)) ⌝ }
+    ensures { λ _. ⌜ PlansIn ops cells image index (valuesOf (underIn image (i .0)) (readIn image index Suffix z none)) ⌝ }
 {
     if z.to <= z.from {
         return;
     }
-    let w = kinds_of(c);
+    let w = kinds_of(Class::Suffix);
     let o = survey(image, index, w, z.loose, z.from, z.to);
     if is_stopped(o) {
         stop_at(cells, Element(o.last.to));

@@ -1,7 +1,8 @@
-// Prints the listing of the tree image on standard input, or the line of its refusal.
+// Prints the listing of the tree image on standard input in the plain mode, or the line of its refusal.
 use formatter::program::respond;
 use libc::STDIN_FILENO;
 use libc::STDOUT_FILENO;
+use numbers::mode::Mode;
 ghost use mathlib.Core.Path.{_≡_};
 ghost use Prim.Native.Nat.{_+_, _≤_};
 ghost use lib.ListN.{length, take};
@@ -47,7 +48,7 @@ fn read_input(buffer: &mut [u8]) -> Input
 // Prints what there is to say of an image, and says whether all of it was written.
 fn print(image: &[u8]) -> bool {
     let mut out = io::large_buffer();
-    let r = respond(image, &mut out);
+    let r = respond(image, Mode::Plain, &mut out);
     let n = r.bytes;
     io::write_all(STDOUT_FILENO, &out[..n])
 }

@@ -1,4 +1,5 @@
-// Replays the images of data/vectors.bin through what the program prints, and prints how many of the answers that the file has agree.
+// Replays the images of data/vectors.bin and data/keeping.bin through what the program prints, those of the second in the keeping
+// mode, and prints how many of the answers that each file has agree.
 use cases::behind_long_field;
 use cases::front;
 use cases::line;
@@ -6,6 +7,7 @@ use cases::load;
 use cases::long_field;
 use formatter::program::respond;
 use libc::STDOUT_FILENO;
+use numbers::mode::Mode;
 ghost use Rattle.vectors.specs.Replies.{Replies};
 
 // Room for the file.
@@ -19,12 +21,12 @@ const DIFFERENT: usize = 255;
 
 const ANSWERS: usize = 256;
 
-// The number of the answer for an image, if it is the expected one byte for byte.
-fn replied(image: &[u8], want: &[u8]) -> usize
-    ensures { λ r. ⌜ Replies (now (image .entry)) (now (want .entry)) r ⌝ }
+// The number of the answer for an image in a mode, if it is the expected one byte for byte.
+fn replied(image: &[u8], mode: Mode, want: &[u8]) -> usize
+    ensures { λ r. ⌜ Replies mode (now (image .entry)) (now (want .entry)) r ⌝ }
 {
     let mut out = io::large_buffer();
-    let r = respond(image, &mut out);
+    let r = respond(image, mode, &mut out);
     let n = r.bytes;
     if check::same(&out[..n], want) {
         r.number as usize
@@ -39,13 +41,13 @@ fn count(counts: &mut [u64], k: usize) {
     }
 }
 
-// Counts the answers for all images of a file, and says how many images there are.
-fn replay(v: &[u8], counts: &mut [u64]) -> u64 {
+// Counts the answers for all images of a file in a mode, and says how many images there are.
+fn replay(v: &[u8], mode: Mode, counts: &mut [u64]) -> u64 {
     let mut images: u64 = 0;
     let mut rest = v;
     while 0 < rest.len() {
         let want = behind_long_field(rest);
-        count(counts, replied(long_field(rest), long_field(want)));
+        count(counts, replied(long_field(rest), mode, long_field(want)));
         images = std::num::wrapping_add_u64(images, 1);
         let next = behind_long_field(want);
         rest = next;
@@ -70,12 +72,23 @@ fn report_refusals(counts: &[u64]) {
     }
 }
 
-fn main() {
-    let mut file = [0u8; FILE];
-    let n = load(b"vectors.bin", &mut file);
+// Replays the images of a file in a mode, and reports.
+fn report(v: &[u8], mode: Mode, title: &[u8]) {
     let mut counts = [0u64; ANSWERS];
-    line(b"images", replay(front(&file, n), &mut counts));
+    line(title, replay(v, mode, &mut counts));
     line(b"listings", counted(&counts, 0));
     report_refusals(&counts);
     line(b"differ", counted(&counts, DIFFERENT));
+}
+
+fn main() {
+    let mut file = [0u8; FILE];
+    let n = load(b"vectors.bin", &mut file);
+    report(front(&file, n), Mode::Plain, b"images in the plain mode");
+    let k = load(b"keeping.bin", &mut file);
+    report(
+        front(&file, k),
+        Mode::Keeping,
+        b"images in the keeping mode",
+    );
 }

@@ -5,10 +5,10 @@ use Rattle.vectors.proofs.replay.Statement.{statement}
 use Rattle.vectors.proofs.replay.Tie as tie
 
 abbrev Inv-loop : tie.InvT-loop
-Inv-loop v counts₀ images₀ rest₀ counts images rest = length counts ≡ length counts₀
+Inv-loop v mode counts₀ images₀ rest₀ counts images rest = length counts ≡ length counts₀
 
 abbrev μ-loop : tie.MeasureT-loop
-μ-loop v counts₀ images₀ rest₀ counts images rest = length rest
+μ-loop v mode counts₀ images₀ rest₀ counts images rest = length rest
 
 pub replay-spec : {M : Type 1} → statement M
 replay-spec =

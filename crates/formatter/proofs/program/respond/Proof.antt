@@ -10,13 +10,13 @@ returns c =
     let n = c .before .before in
     let a = n .before .before in
     let l = a .before .before .before .before in
-    responds-refused _ _ _ _ refl refl (omega arith) (a .a .given .1) (l .list-items .ensures .0) (l .list-items .ensures .1 .1 .1 .0) (n .number-of .ensures) (omega arith) (omega (arith, n .before .known-told .given)) (c .write-refused .ensures)
+    responds-refused _ _ _ _ _ refl refl (omega arith) (a .a .given .1) (l .list-items .ensures .0) (l .list-items .ensures .1 .1 .1 .0) (n .number-of .ensures) (omega arith) (omega (arith, n .before .known-told .given)) (c .write-refused .ensures)
 
 returns-2 : tie.Need-returns-2
 returns-2 c =
     let a = c .before in
     let l = a .before .before .before .before in
-    responds-listed _ _ _ _ refl refl (omega arith) (a .a2 .given .1) (l .list-items .ensures .0) (l .list-items .ensures .1 .1 .1 .0)
+    responds-listed _ _ _ _ _ refl refl (omega arith) (a .a2 .given .1) (l .list-items .ensures .0) (l .list-items .ensures .1 .1 .1 .0)
 
 pub respond-spec : {M : Type 1} → statement M
 respond-spec =

@@ -14,7 +14,7 @@ serve-spec =
     (λ c. search needs)  -- enum-known-t
     (λ c. search needs)  -- enum-told
     (λ c κs. passing _ _ _ (ap said (sym (c .before .before .before .enum-told .given .1)) ∙ c .before .before .before .before .before .refusal .ensures) .unrefused)  -- serve-passed-requires
-    (λ c. refused-by _ _ _ _ _ (c .before .t .given .1) refl (c .before .before .before .refusal .ensures))  -- returns
+    (λ c. refused-by _ _ _ _ _ _ (c .before .t .given .1) refl (c .before .before .before .refusal .ensures))  -- returns
     (λ c. search needs)  -- same-length
     (λ c. search needs)  -- same-length-2
     (λ c. search needs)  -- same-length-3

@@ -5,7 +5,7 @@ use Rattle.formatter.proofs.serve.serve_in.Statement.{statement}
 use Rattle.formatter.proofs.serve.serve_in.Tie as tie
 
 returns : tie.Need-returns
-returns c = answered-by (stops _ _ _ _ _ (c .before .before .before .before .before .before .before .plan-image .ensures .stops _ (c .before .outlook .given .1)))
+returns c = answered-by (stops _ _ _ _ _ _ (c .before .before .before .before .before .before .before .plan-image .ensures .stops _ (c .before .outlook .given .1)))
 
 returns-3 : tie.Need-returns-3
 returns-3 c =

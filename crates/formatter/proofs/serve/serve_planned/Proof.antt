@@ -17,7 +17,7 @@ returns-2 c =
     let f = c .before .before .before .before in
     let k = f .before .before .before in
     let s = k .before .before .before .before .before .before .before .before .before in
-    rw (c .whole .ensures) (lacking _ _ _ (s .args .listed) (k .count-ops .result) (s .pre) (k .count-ops .ensures) (f .before .before .counts-with2 .ensures) (f .before .listing-length .ensures) (f .fit .ensures) (c .before .before .f .given .1))
+    rw (c .whole .ensures) (lacking _ _ _ (s .args .wanted .listed) (k .count-ops .result) (s .pre) (k .count-ops .ensures) (f .before .before .counts-with2 .ensures) (f .before .listing-length .ensures) (f .fit .ensures) (c .before .before .f .given .1))
 
 listing-asked : tie.Need-write-listing-requires
 listing-asked c κs =
@@ -25,7 +25,7 @@ listing-asked c κs =
     let f = p .before .before .before .before .before in
     let k = f .before .before .before in
     let s = k .before .before .before .before .before .before .before .before .before in
-    tells _ _ (s .args .listing .now) (s .args .listed) (k .count-ops .result) (s .pre) (k .count-ops .ensures) (f .before .before .counts-with2 .ensures) (f .before .listing-length .ensures) (f .fit .ensures) (p .before .before .before .enum-told .given .1) (p .write-ops2 .ensures)
+    tells _ _ (s .args .listing .now) (s .args .wanted .listed) (k .count-ops .result) (s .pre) (k .count-ops .ensures) (f .before .before .counts-with2 .ensures) (f .before .listing-length .ensures) (f .fit .ensures) (p .before .before .before .enum-told .given .1) (p .write-ops2 .ensures)
 
 returns-3 : tie.Need-returns-3
 returns-3 c =
@@ -33,7 +33,7 @@ returns-3 c =
     let f = p .before .before .before .before .before in
     let k = f .before .before .before in
     let s = k .before .before .before .before .before .before .before .before .before in
-    lists _ _ _ (s .args .listed) (k .count-ops .result) (s .pre) (k .count-ops .ensures) (f .before .before .counts-with2 .ensures) (f .before .listing-length .ensures) (f .fit .ensures) (p .before .before .before .enum-told .given .1) (p .write-ops2 .ensures) (c .before .before .before .before .before .before .if2 .taken) (c .before .before .write-listing .ensures)
+    lists _ _ _ (s .args .wanted .listed) (k .count-ops .result) (s .pre) (k .count-ops .ensures) (f .before .before .counts-with2 .ensures) (f .before .listing-length .ensures) (f .fit .ensures) (p .before .before .before .enum-told .given .1) (p .write-ops2 .ensures) (c .before .before .before .before .before .before .if2 .taken) (c .before .before .write-listing .ensures)
 
 returns-4 : tie.Need-returns-4
 returns-4 c =
@@ -41,7 +41,7 @@ returns-4 c =
     let f = p .before .before .before .before .before in
     let k = f .before .before .before in
     let s = k .before .before .before .before .before .before .before .before .before in
-    prints _ _ _ (s .args .listed) (k .count-ops .result) (s .pre) (k .count-ops .ensures) (f .before .before .counts-with2 .ensures) (f .before .listing-length .ensures) (f .fit .ensures) (p .before .before .before .enum-told .given .1) (p .write-ops2 .ensures) (c .if2 .left)
+    prints _ _ _ (s .args .wanted .listed) (k .count-ops .result) (s .pre) (k .count-ops .ensures) (f .before .before .counts-with2 .ensures) (f .before .listing-length .ensures) (f .fit .ensures) (p .before .before .before .enum-told .given .1) (p .write-ops2 .ensures) (c .if2 .left)
 
 pub serve-planned-spec : {M : Type 1} → statement M
 serve-planned-spec =
@@ -53,7 +53,7 @@ serve-planned-spec =
     (λ c. puts-same (c .before .before .before .before .before .write-ops .ensures) .0)  -- same-length
     (λ c. puts-same (c .before .before .before .before .before .write-ops .ensures) .1)  -- same-length-2
     returns  -- returns
-    (λ c κs. let s = c .before .before .before .before .before .before .before .before in (s .pre .within, plan-fits (s .pre) (s .args .listed)))  -- count-ops-requires
+    (λ c κs. let s = c .before .before .before .before .before .before .before .before in (s .pre .within, plan-fits (s .pre) (s .args .wanted .listed)))  -- count-ops-requires
     (λ c κs. marks-fit (c .before .before .before .before .before .before .before .before .before .pre))  -- counts-with-requires-2
     (λ c κs. search needs)  -- listing-length-requires
     (λ c κs. search needs)  -- fit-requires

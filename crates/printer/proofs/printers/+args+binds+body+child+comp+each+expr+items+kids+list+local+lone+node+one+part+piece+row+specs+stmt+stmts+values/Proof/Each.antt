@@ -7,8 +7,8 @@ use lib.Dec.{eqb}
 use Rattle.plan.specs.Words.{wordAt}
 use Rattle.printer.specs.Rows.{wantAt}
 use Rattle.printer.proofs.printers.each.Reads as each
-use Rattle.printer.proofs.printers.+args+binds+body+child+comp+each+expr+items+kids+list+local+lone+node+one+part+piece+row+specs+values.Lts-each as lts
-use Rattle.printer.proofs.printers.+args+binds+body+child+comp+each+expr+items+kids+list+local+lone+node+one+part+piece+row+specs+values.Proof.Cycle.{each-at, each-claims}
+use Rattle.printer.proofs.printers.+args+binds+body+child+comp+each+expr+items+kids+list+local+lone+node+one+part+piece+row+specs+stmt+stmts+values.Lts-each as lts
+use Rattle.printer.proofs.printers.+args+binds+body+child+comp+each+expr+items+kids+list+local+lone+node+one+part+piece+row+specs+stmt+stmts+values.Proof.Cycle.{each-at, each-claims}
 
 abbrev Inv-loop : lts.InvT-loop
 Inv-loop ops₀ cells₀ image index i x end j₀ ops cells j = Eaching image index (i .0) (wantAt (x .want) .class) (wordAt (x .word)) (eqb (x .what) 6) (held ops₀ cells₀) (held ops cells) j

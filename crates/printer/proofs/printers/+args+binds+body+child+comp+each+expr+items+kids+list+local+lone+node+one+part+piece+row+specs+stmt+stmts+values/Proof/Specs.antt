@@ -7,8 +7,8 @@ use Rattle.children.proofs.Uses.{child-is, lead-next}
 use Rattle.printer.proofs.Walking.{unasked-lies, unasked-around}
 use Rattle.printer.proofs.Single.{spec-kid, specs-none, specs-some, specs-walks}
 use Rattle.printer.proofs.printers.specs.Reads as specs
-use Rattle.printer.proofs.printers.+args+binds+body+child+comp+each+expr+items+kids+list+local+lone+node+one+part+piece+row+specs+values.Lts-specs as lts
-use Rattle.printer.proofs.printers.+args+binds+body+child+comp+each+expr+items+kids+list+local+lone+node+one+part+piece+row+specs+values.Proof.Cycle.{specs-at, specs-claims}
+use Rattle.printer.proofs.printers.+args+binds+body+child+comp+each+expr+items+kids+list+local+lone+node+one+part+piece+row+specs+stmt+stmts+values.Lts-specs as lts
+use Rattle.printer.proofs.printers.+args+binds+body+child+comp+each+expr+items+kids+list+local+lone+node+one+part+piece+row+specs+stmt+stmts+values.Proof.Cycle.{specs-at, specs-claims}
 
 returns : (t : ℕ) → lts.Need-returns (specs-claims t) (specs-at t) specs.Post
 returns t c =

@@ -9,8 +9,8 @@ use Rattle.printer.proofs.Listing.{local-foreign}
 use Rattle.printer.proofs.Printed.{enclosed-reading, plans-binds}
 use Rattle.items.specs.declared.Condition.the-variants.{Always}
 use Rattle.printer.proofs.printers.binds.Reads as binds
-use Rattle.printer.proofs.printers.+args+binds+body+child+comp+each+expr+items+kids+list+local+lone+node+one+part+piece+row+specs+values.Lts-binds as lts
-use Rattle.printer.proofs.printers.+args+binds+body+child+comp+each+expr+items+kids+list+local+lone+node+one+part+piece+row+specs+values.Proof.Cycle.{binds-at, binds-claims}
+use Rattle.printer.proofs.printers.+args+binds+body+child+comp+each+expr+items+kids+list+local+lone+node+one+part+piece+row+specs+stmt+stmts+values.Lts-binds as lts
+use Rattle.printer.proofs.printers.+args+binds+body+child+comp+each+expr+items+kids+list+local+lone+node+one+part+piece+row+specs+stmt+stmts+values.Proof.Cycle.{binds-at, binds-claims}
 use Rattle.printer.proofs.Readings.{within}
 
 returns : (t : ℕ) → lts.Need-returns (binds-claims t) (binds-at t) binds.Post

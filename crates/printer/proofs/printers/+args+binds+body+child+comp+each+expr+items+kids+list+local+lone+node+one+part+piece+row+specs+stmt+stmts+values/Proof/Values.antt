@@ -7,8 +7,8 @@ use native.Mathlib.Omega.{arith}
 use Rattle.plan.specs.Plans.{held}
 use Rattle.plan.proofs.Laws.{by, idle}
 use Rattle.printer.proofs.printers.values.Reads as values
-use Rattle.printer.proofs.printers.+args+binds+body+child+comp+each+expr+items+kids+list+local+lone+node+one+part+piece+row+specs+values.Lts-values as lts
-use Rattle.printer.proofs.printers.+args+binds+body+child+comp+each+expr+items+kids+list+local+lone+node+one+part+piece+row+specs+values.Proof.Cycle.{values-at, values-claims}
+use Rattle.printer.proofs.printers.+args+binds+body+child+comp+each+expr+items+kids+list+local+lone+node+one+part+piece+row+specs+stmt+stmts+values.Lts-values as lts
+use Rattle.printer.proofs.printers.+args+binds+body+child+comp+each+expr+items+kids+list+local+lone+node+one+part+piece+row+specs+stmt+stmts+values.Proof.Cycle.{values-at, values-claims}
 use Rattle.printer.proofs.Under.{kid-at}
 use Rattle.printer.proofs.Readings.{walks-kid}
 
@@ -38,7 +38,7 @@ node-asked t c κs =
     let i3 = c .before .before in
     let l = i3 .before .before in
     let s = l .before .before .before .before .before .before .before .before .before .before .before in
-    let k = walks-kid (l .loop .inv .walks (s .pre .1)) (child-is _ (i3 .before .at-child .ensures) (i3 .if3 .taken)) in
+    let k = walks-kid (l .loop .inv .walking (s .pre .1) .walks) (child-is _ (i3 .before .at-child .ensures) (i3 .if3 .taken)) in
     (kid-falls 0 k (omega (arith, s .pre .0)), kid-at k)
 
 gap-asked : (t : ℕ) → lts.Need-gap-requires-2 (values-claims t) (values-at t) values.Post Inv-loop μ-loop
@@ -46,7 +46,7 @@ gap-asked t c κs =
     let i3 = c .before .before .before .before .before .before in
     let l = i3 .before .before in
     let s = l .before .before .before .before .before .before .before .before .before .before .before in
-    walks-region (l .loop .inv .walks (s .pre .1)) (i3 .before .at-child .ensures) (i3 .if3 .taken) (c .end-at .ensures)
+    walks-region (l .loop .inv .walking (s .pre .1) .walks) (i3 .before .at-child .ensures) (i3 .if3 .taken) (c .end-at .ensures)
 
 less : (t : ℕ) → lts.Need-loop-less (values-claims t) (values-at t) values.Post Inv-loop μ-loop
 less t c =
@@ -54,7 +54,7 @@ less t c =
     let i3 = e .before .before .before .before .before .before in
     let l = i3 .before .before in
     let s = l .before .before .before .before .before .before .before .before .before .before .before in
-    walks-less (l .loop .inv .walks (s .pre .1)) (i3 .before .at-child .ensures) (i3 .if3 .taken) (e .end-at .ensures) (c .gap2 .ensures)
+    walks-less (l .loop .inv .walking (s .pre .1) .walks) (i3 .before .at-child .ensures) (i3 .if3 .taken) (e .end-at .ensures) (c .gap2 .ensures)
 
 pub values-closed : {M : Type 1} (t : ℕ) → lts.Closed (values-claims t) (values-at t) values.Post M
 values-closed t =

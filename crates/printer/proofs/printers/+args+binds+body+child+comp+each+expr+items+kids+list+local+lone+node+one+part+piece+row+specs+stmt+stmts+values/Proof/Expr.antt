@@ -5,8 +5,8 @@ use native.Mathlib.Omega.{arith}
 use Rattle.printer.proofs.Looking.{first-has, none-has, ends-has, bounded-as}
 use Rattle.printer.proofs.Printed.{plans-expr}
 use Rattle.printer.proofs.printers.expr.Reads as expr
-use Rattle.printer.proofs.printers.+args+binds+body+child+comp+each+expr+items+kids+list+local+lone+node+one+part+piece+row+specs+values.Lts-expr as lts
-use Rattle.printer.proofs.printers.+args+binds+body+child+comp+each+expr+items+kids+list+local+lone+node+one+part+piece+row+specs+values.Proof.Cycle.{expr-at, expr-claims}
+use Rattle.printer.proofs.printers.+args+binds+body+child+comp+each+expr+items+kids+list+local+lone+node+one+part+piece+row+specs+stmt+stmts+values.Lts-expr as lts
+use Rattle.printer.proofs.printers.+args+binds+body+child+comp+each+expr+items+kids+list+local+lone+node+one+part+piece+row+specs+stmt+stmts+values.Proof.Cycle.{expr-at, expr-claims}
 use Rattle.printer.proofs.Readings.{within}
 
 returns : (t : ℕ) → lts.Need-returns (expr-claims t) (expr-at t) expr.Post
@@ -19,10 +19,10 @@ returns t c =
     let e = y .before in
     let a = e .before in
     let f = a .before in
-    plans-expr _ _ _ (f .first-of .ensures) (bounded-as _ (a .first-in .ensures) (e .end-at .ensures) refl refl (y .bounds-between .ensures)) (bounded-as _ (a .first-in .ensures) (e .end-at .ensures) refl refl (z .bounds-between2 .ensures)) (c3 .values .ensures) (c2 .part .ensures) (c1 .values2 .ensures)
+    plans-expr _ _ _ (f .first-of .ensures) (bounded-as _ (a .first-in .ensures) (e .end-at .ensures) refl refl (y .bounds-between .ensures)) (bounded-as _ (a .first-in .ensures) (e .end-at .ensures) refl refl (z .bounds-between2 .ensures)) (c3 .stmts .ensures) (c2 .part .ensures) (c1 .values .ensures)
 
-values-asked : (t : ℕ) → lts.Need-values-requires (expr-claims t) (expr-at t) expr.Post
-values-asked t c κs =
+stmts-asked : (t : ℕ) → lts.Need-stmts-requires (expr-claims t) (expr-at t) expr.Post
+stmts-asked t c κs =
     let y = c .before .before .before in
     let e = y .before in
     let a = e .before in
@@ -35,8 +35,8 @@ part-asked t c κs =
     let s = f .before .before .before .before in
     (omega (arith, s .pre .0), (s .pre .1, (first-has _ _ (f .first-of .ensures), omega arith)))
 
-values-asked-2 : (t : ℕ) → lts.Need-values-requires-2 (expr-claims t) (expr-at t) expr.Post
-values-asked-2 t c κs =
+values-asked : (t : ℕ) → lts.Need-values-requires (expr-claims t) (expr-at t) expr.Post
+values-asked t c κs =
     let z = c .before .before .before .before .before .before .before .before .before .before .before .before in
     let e = z .before .before in
     let a = e .before in
@@ -54,8 +54,8 @@ expr-closed t =
     (λ c κs. search needs)  -- end-at-requires
     (λ c κs. search (ends-has, none-has, first-has))  -- bounds-between-requires
     (λ c κs. search (ends-has, none-has, first-has))  -- bounds-between-requires-2
-    (values-asked t)  -- values-requires
+    (stmts-asked t)  -- stmts-requires
     (part-asked t)  -- part-requires
-    (values-asked-2 t)  -- values-requires-2
+    (values-asked t)  -- values-requires
     (λ c. returns t c .sameOps)  -- same-length
     (returns t)  -- returns

@@ -7,8 +7,8 @@ use Rattle.printer.proofs.Walking.{survey-outlined, survey-foreign, out
 use Rattle.printer.proofs.Listing.{args-foreign}
 use Rattle.printer.proofs.Printed.{enclosed-reading, left-paren, right-paren, plans-args}
 use Rattle.printer.proofs.printers.args.Reads as args
-use Rattle.printer.proofs.printers.+args+binds+body+child+comp+each+expr+items+kids+list+local+lone+node+one+part+piece+row+specs+values.Lts-args as lts
-use Rattle.printer.proofs.printers.+args+binds+body+child+comp+each+expr+items+kids+list+local+lone+node+one+part+piece+row+specs+values.Proof.Cycle.{args-at, args-claims}
+use Rattle.printer.proofs.printers.+args+binds+body+child+comp+each+expr+items+kids+list+local+lone+node+one+part+piece+row+specs+stmt+stmts+values.Lts-args as lts
+use Rattle.printer.proofs.printers.+args+binds+body+child+comp+each+expr+items+kids+list+local+lone+node+one+part+piece+row+specs+stmt+stmts+values.Proof.Cycle.{args-at, args-claims}
 use Rattle.printer.proofs.Readings.{within}
 
 returns : (t : ℕ) → lts.Need-returns (args-claims t) (args-at t) args.Post

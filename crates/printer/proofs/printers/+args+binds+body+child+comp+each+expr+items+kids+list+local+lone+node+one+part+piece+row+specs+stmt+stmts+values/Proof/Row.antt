@@ -5,8 +5,8 @@ use borrow.Author.Needs.{needs}
 use Rattle.printer.proofs.Rowing.{Rowing, rowing-none, rowing-more, rowing-in, rowing-all}
 use Rattle.plan.specs.Plans.{held}
 use Rattle.printer.proofs.printers.row.Reads as row
-use Rattle.printer.proofs.printers.+args+binds+body+child+comp+each+expr+items+kids+list+local+lone+node+one+part+piece+row+specs+values.Lts-row as lts
-use Rattle.printer.proofs.printers.+args+binds+body+child+comp+each+expr+items+kids+list+local+lone+node+one+part+piece+row+specs+values.Proof.Cycle.{row-at, row-claims}
+use Rattle.printer.proofs.printers.+args+binds+body+child+comp+each+expr+items+kids+list+local+lone+node+one+part+piece+row+specs+stmt+stmts+values.Lts-row as lts
+use Rattle.printer.proofs.printers.+args+binds+body+child+comp+each+expr+items+kids+list+local+lone+node+one+part+piece+row+specs+stmt+stmts+values.Proof.Cycle.{row-at, row-claims}
 
 abbrev Inv-loop : lts.InvT-loop
 Inv-loop ops₀ cells₀ image index i m end n₀ ops cells n = Rowing image index (i .0) m end (held ops₀ cells₀) (held ops cells) n

@@ -8,8 +8,8 @@ use Rattle.printer.proofs.Looking.{first-has, ends-has, bounded-as}
 use Rattle.printer.proofs.Listing.{comp-foreign}
 use Rattle.printer.proofs.Printed.{comp-lacks, member-reading}
 use Rattle.printer.proofs.printers.comp.Reads as comp
-use Rattle.printer.proofs.printers.+args+binds+body+child+comp+each+expr+items+kids+list+local+lone+node+one+part+piece+row+specs+values.Lts-comp as lts
-use Rattle.printer.proofs.printers.+args+binds+body+child+comp+each+expr+items+kids+list+local+lone+node+one+part+piece+row+specs+values.Proof.Cycle.{comp-at, comp-claims}
+use Rattle.printer.proofs.printers.+args+binds+body+child+comp+each+expr+items+kids+list+local+lone+node+one+part+piece+row+specs+stmt+stmts+values.Lts-comp as lts
+use Rattle.printer.proofs.printers.+args+binds+body+child+comp+each+expr+items+kids+list+local+lone+node+one+part+piece+row+specs+stmt+stmts+values.Proof.Cycle.{comp-at, comp-claims}
 use Rattle.printer.proofs.Readings.{within}
 
 returns : (t : ℕ) → lts.Need-returns (comp-claims t) (comp-at t) comp.Post

@@ -5,8 +5,8 @@ use Rattle.plan.proofs.Laws.{by}
 use Rattle.printer.proofs.Nodes.{rowed-rest, rowed-small, element-fits, node-token, node-own, node-row}
 use Rattle.printer.specs.Print.{element}
 use Rattle.printer.proofs.printers.node.Reads as node
-use Rattle.printer.proofs.printers.+args+binds+body+child+comp+each+expr+items+kids+list+local+lone+node+one+part+piece+row+specs+values.Lts-node as lts
-use Rattle.printer.proofs.printers.+args+binds+body+child+comp+each+expr+items+kids+list+local+lone+node+one+part+piece+row+specs+values.Proof.Cycle.{node-at, node-claims}
+use Rattle.printer.proofs.printers.+args+binds+body+child+comp+each+expr+items+kids+list+local+lone+node+one+part+piece+row+specs+stmt+stmts+values.Lts-node as lts
+use Rattle.printer.proofs.printers.+args+binds+body+child+comp+each+expr+items+kids+list+local+lone+node+one+part+piece+row+specs+stmt+stmts+values.Proof.Cycle.{node-at, node-claims}
 
 returns : (t : ℕ) → lts.Need-returns (node-claims t) (node-at t) node.Post
 returns t c =

@@ -7,8 +7,8 @@ use Rattle.printer.proofs.Walking.{survey-outlined, survey-foreign, out
 use Rattle.printer.proofs.Listing.{list-foreign}
 use Rattle.printer.proofs.Printed.{list-reading, plans-empty, plans-list}
 use Rattle.printer.proofs.printers.list.Reads as list
-use Rattle.printer.proofs.printers.+args+binds+body+child+comp+each+expr+items+kids+list+local+lone+node+one+part+piece+row+specs+values.Lts-list as lts
-use Rattle.printer.proofs.printers.+args+binds+body+child+comp+each+expr+items+kids+list+local+lone+node+one+part+piece+row+specs+values.Proof.Cycle.{list-at, list-claims}
+use Rattle.printer.proofs.printers.+args+binds+body+child+comp+each+expr+items+kids+list+local+lone+node+one+part+piece+row+specs+stmt+stmts+values.Lts-list as lts
+use Rattle.printer.proofs.printers.+args+binds+body+child+comp+each+expr+items+kids+list+local+lone+node+one+part+piece+row+specs+stmt+stmts+values.Proof.Cycle.{list-at, list-claims}
 use Rattle.printer.proofs.Readings.{within}
 
 returns : (t : ℕ) → lts.Need-returns (list-claims t) (list-at t) list.Post

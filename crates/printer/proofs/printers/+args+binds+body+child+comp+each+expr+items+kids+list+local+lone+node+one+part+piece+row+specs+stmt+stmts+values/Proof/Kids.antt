@@ -4,13 +4,16 @@ use Rattle.children.proofs.Uses.{child-is}
 use Rattle.printer.proofs.Walking.{walks-region, walks-less, Walking, walking-none, walking-more, walking-all}
 use Rattle.plan.specs.Plans.{held}
 use Rattle.items.specs.Item.{conditionTest}
+use Rattle.printer.specs.Lists.{onLine, behindIt}
+use Rattle.printer.specs.Under.{under}
+use Rattle.printer.specs.Walked.{around}
 use Rattle.printer.proofs.printers.kids.Reads as kids
-use Rattle.printer.proofs.printers.+args+binds+body+child+comp+each+expr+items+kids+list+local+lone+node+one+part+piece+row+specs+values.Lts-kids as lts
-use Rattle.printer.proofs.printers.+args+binds+body+child+comp+each+expr+items+kids+list+local+lone+node+one+part+piece+row+specs+values.Proof.Cycle.{kids-at, kids-claims}
+use Rattle.printer.proofs.printers.+args+binds+body+child+comp+each+expr+items+kids+list+local+lone+node+one+part+piece+row+specs+stmt+stmts+values.Lts-kids as lts
+use Rattle.printer.proofs.printers.+args+binds+body+child+comp+each+expr+items+kids+list+local+lone+node+one+part+piece+row+specs+stmt+stmts+values.Proof.Cycle.{kids-at, kids-claims}
 use Rattle.printer.proofs.Readings.{walks-kid}
 
 abbrev Inv-loop : lts.InvT-loop
-Inv-loop ops₀ cells₀ image index i loose b style t w s₀ ops cells s = Walking image index (i .0) w loose b style (conditionTest t) s₀ (held ops₀ cells₀) (held ops cells) s
+Inv-loop ops₀ cells₀ image index i loose b style t w s₀ ops cells s = Walking image index (i .0) w loose b (around (under image (i .0)) (onLine style (conditionTest t)) (behindIt style (conditionTest t))) s₀ (held ops₀ cells₀) (held ops cells) s
 
 abbrev μ-loop : lts.MeasureT-loop
 μ-loop ops₀ cells₀ image index i loose b style t w s₀ ops cells s = b - s .to

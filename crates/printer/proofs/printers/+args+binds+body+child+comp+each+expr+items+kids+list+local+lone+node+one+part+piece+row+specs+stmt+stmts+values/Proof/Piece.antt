@@ -8,8 +8,8 @@ use Rattle.printer.proofs.Looking.{part-has}
 use Rattle.printer.proofs.Marking.{marks-for, marks-weak}
 use Rattle.printer.specs.Rows.{tested}
 use Rattle.printer.proofs.printers.piece.Reads as piece
-use Rattle.printer.proofs.printers.+args+binds+body+child+comp+each+expr+items+kids+list+local+lone+node+one+part+piece+row+specs+values.Lts-piece as lts
-use Rattle.printer.proofs.printers.+args+binds+body+child+comp+each+expr+items+kids+list+local+lone+node+one+part+piece+row+specs+values.Proof.Cycle.{piece-at, piece-claims}
+use Rattle.printer.proofs.printers.+args+binds+body+child+comp+each+expr+items+kids+list+local+lone+node+one+part+piece+row+specs+stmt+stmts+values.Lts-piece as lts
+use Rattle.printer.proofs.printers.+args+binds+body+child+comp+each+expr+items+kids+list+local+lone+node+one+part+piece+row+specs+stmt+stmts+values.Proof.Cycle.{piece-at, piece-claims}
 
 returns : (t : ℕ) → lts.Need-returns (piece-claims t) (piece-at t) piece.Post
 returns t c = by (piece-unasked _ _ _ _ _ (c .before .before .entry-at .ensures) (c .before .is-asked .ensures) (c .if1 .taken)) idle

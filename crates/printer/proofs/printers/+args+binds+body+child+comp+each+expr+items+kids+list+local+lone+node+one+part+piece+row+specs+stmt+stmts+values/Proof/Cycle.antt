@@ -4,61 +4,67 @@ use borrow.Fn.Kinds.{In}
 use borrow.Fn.PlainCycle.{Measures, is, falls, and}
 use Rattle.printer.proofs.printers.args.Reads as args
 use Rattle.printer.proofs.printers.args.Kinds as args-kinds
-use Rattle.printer.proofs.printers.+args+binds+body+child+comp+each+expr+items+kids+list+local+lone+node+one+part+piece+row+specs+values.Lts-args as args-lts
+use Rattle.printer.proofs.printers.+args+binds+body+child+comp+each+expr+items+kids+list+local+lone+node+one+part+piece+row+specs+stmt+stmts+values.Lts-args as args-lts
 use Rattle.printer.proofs.printers.binds.Reads as binds
 use Rattle.printer.proofs.printers.binds.Kinds as binds-kinds
-use Rattle.printer.proofs.printers.+args+binds+body+child+comp+each+expr+items+kids+list+local+lone+node+one+part+piece+row+specs+values.Lts-binds as binds-lts
+use Rattle.printer.proofs.printers.+args+binds+body+child+comp+each+expr+items+kids+list+local+lone+node+one+part+piece+row+specs+stmt+stmts+values.Lts-binds as binds-lts
 use Rattle.printer.proofs.printers.body.Reads as body
 use Rattle.printer.proofs.printers.body.Kinds as body-kinds
-use Rattle.printer.proofs.printers.+args+binds+body+child+comp+each+expr+items+kids+list+local+lone+node+one+part+piece+row+specs+values.Lts-body as body-lts
+use Rattle.printer.proofs.printers.+args+binds+body+child+comp+each+expr+items+kids+list+local+lone+node+one+part+piece+row+specs+stmt+stmts+values.Lts-body as body-lts
 use Rattle.printer.proofs.printers.child.Reads as child
 use Rattle.printer.proofs.printers.child.Kinds as child-kinds
-use Rattle.printer.proofs.printers.+args+binds+body+child+comp+each+expr+items+kids+list+local+lone+node+one+part+piece+row+specs+values.Lts-child as child-lts
+use Rattle.printer.proofs.printers.+args+binds+body+child+comp+each+expr+items+kids+list+local+lone+node+one+part+piece+row+specs+stmt+stmts+values.Lts-child as child-lts
 use Rattle.printer.proofs.printers.comp.Reads as comp
 use Rattle.printer.proofs.printers.comp.Kinds as comp-kinds
-use Rattle.printer.proofs.printers.+args+binds+body+child+comp+each+expr+items+kids+list+local+lone+node+one+part+piece+row+specs+values.Lts-comp as comp-lts
+use Rattle.printer.proofs.printers.+args+binds+body+child+comp+each+expr+items+kids+list+local+lone+node+one+part+piece+row+specs+stmt+stmts+values.Lts-comp as comp-lts
 use Rattle.printer.proofs.printers.each.Reads as each
 use Rattle.printer.proofs.printers.each.Kinds as each-kinds
-use Rattle.printer.proofs.printers.+args+binds+body+child+comp+each+expr+items+kids+list+local+lone+node+one+part+piece+row+specs+values.Lts-each as each-lts
+use Rattle.printer.proofs.printers.+args+binds+body+child+comp+each+expr+items+kids+list+local+lone+node+one+part+piece+row+specs+stmt+stmts+values.Lts-each as each-lts
 use Rattle.printer.proofs.printers.expr.Reads as expr
 use Rattle.printer.proofs.printers.expr.Kinds as expr-kinds
-use Rattle.printer.proofs.printers.+args+binds+body+child+comp+each+expr+items+kids+list+local+lone+node+one+part+piece+row+specs+values.Lts-expr as expr-lts
+use Rattle.printer.proofs.printers.+args+binds+body+child+comp+each+expr+items+kids+list+local+lone+node+one+part+piece+row+specs+stmt+stmts+values.Lts-expr as expr-lts
 use Rattle.printer.proofs.printers.items.Reads as items
 use Rattle.printer.proofs.printers.items.Kinds as items-kinds
-use Rattle.printer.proofs.printers.+args+binds+body+child+comp+each+expr+items+kids+list+local+lone+node+one+part+piece+row+specs+values.Lts-items as items-lts
+use Rattle.printer.proofs.printers.+args+binds+body+child+comp+each+expr+items+kids+list+local+lone+node+one+part+piece+row+specs+stmt+stmts+values.Lts-items as items-lts
 use Rattle.printer.proofs.printers.kids.Reads as kids
 use Rattle.printer.proofs.printers.kids.Kinds as kids-kinds
-use Rattle.printer.proofs.printers.+args+binds+body+child+comp+each+expr+items+kids+list+local+lone+node+one+part+piece+row+specs+values.Lts-kids as kids-lts
+use Rattle.printer.proofs.printers.+args+binds+body+child+comp+each+expr+items+kids+list+local+lone+node+one+part+piece+row+specs+stmt+stmts+values.Lts-kids as kids-lts
 use Rattle.printer.proofs.printers.list.Reads as list
 use Rattle.printer.proofs.printers.list.Kinds as list-kinds
-use Rattle.printer.proofs.printers.+args+binds+body+child+comp+each+expr+items+kids+list+local+lone+node+one+part+piece+row+specs+values.Lts-list as list-lts
+use Rattle.printer.proofs.printers.+args+binds+body+child+comp+each+expr+items+kids+list+local+lone+node+one+part+piece+row+specs+stmt+stmts+values.Lts-list as list-lts
 use Rattle.printer.proofs.printers.local.Reads as local
 use Rattle.printer.proofs.printers.local.Kinds as local-kinds
-use Rattle.printer.proofs.printers.+args+binds+body+child+comp+each+expr+items+kids+list+local+lone+node+one+part+piece+row+specs+values.Lts-local as local-lts
+use Rattle.printer.proofs.printers.+args+binds+body+child+comp+each+expr+items+kids+list+local+lone+node+one+part+piece+row+specs+stmt+stmts+values.Lts-local as local-lts
 use Rattle.printer.proofs.printers.lone.Reads as lone
 use Rattle.printer.proofs.printers.lone.Kinds as lone-kinds
-use Rattle.printer.proofs.printers.+args+binds+body+child+comp+each+expr+items+kids+list+local+lone+node+one+part+piece+row+specs+values.Lts-lone as lone-lts
+use Rattle.printer.proofs.printers.+args+binds+body+child+comp+each+expr+items+kids+list+local+lone+node+one+part+piece+row+specs+stmt+stmts+values.Lts-lone as lone-lts
 use Rattle.printer.proofs.printers.node.Reads as node
 use Rattle.printer.proofs.printers.node.Kinds as node-kinds
-use Rattle.printer.proofs.printers.+args+binds+body+child+comp+each+expr+items+kids+list+local+lone+node+one+part+piece+row+specs+values.Lts-node as node-lts
+use Rattle.printer.proofs.printers.+args+binds+body+child+comp+each+expr+items+kids+list+local+lone+node+one+part+piece+row+specs+stmt+stmts+values.Lts-node as node-lts
 use Rattle.printer.proofs.printers.one.Reads as one
 use Rattle.printer.proofs.printers.one.Kinds as one-kinds
-use Rattle.printer.proofs.printers.+args+binds+body+child+comp+each+expr+items+kids+list+local+lone+node+one+part+piece+row+specs+values.Lts-one as one-lts
+use Rattle.printer.proofs.printers.+args+binds+body+child+comp+each+expr+items+kids+list+local+lone+node+one+part+piece+row+specs+stmt+stmts+values.Lts-one as one-lts
 use Rattle.printer.proofs.printers.part.Reads as part
 use Rattle.printer.proofs.printers.part.Kinds as part-kinds
-use Rattle.printer.proofs.printers.+args+binds+body+child+comp+each+expr+items+kids+list+local+lone+node+one+part+piece+row+specs+values.Lts-part as part-lts
+use Rattle.printer.proofs.printers.+args+binds+body+child+comp+each+expr+items+kids+list+local+lone+node+one+part+piece+row+specs+stmt+stmts+values.Lts-part as part-lts
 use Rattle.printer.proofs.printers.piece.Reads as piece
 use Rattle.printer.proofs.printers.piece.Kinds as piece-kinds
-use Rattle.printer.proofs.printers.+args+binds+body+child+comp+each+expr+items+kids+list+local+lone+node+one+part+piece+row+specs+values.Lts-piece as piece-lts
+use Rattle.printer.proofs.printers.+args+binds+body+child+comp+each+expr+items+kids+list+local+lone+node+one+part+piece+row+specs+stmt+stmts+values.Lts-piece as piece-lts
 use Rattle.printer.proofs.printers.row.Reads as row
 use Rattle.printer.proofs.printers.row.Kinds as row-kinds
-use Rattle.printer.proofs.printers.+args+binds+body+child+comp+each+expr+items+kids+list+local+lone+node+one+part+piece+row+specs+values.Lts-row as row-lts
+use Rattle.printer.proofs.printers.+args+binds+body+child+comp+each+expr+items+kids+list+local+lone+node+one+part+piece+row+specs+stmt+stmts+values.Lts-row as row-lts
 use Rattle.printer.proofs.printers.specs.Reads as specs
 use Rattle.printer.proofs.printers.specs.Kinds as specs-kinds
-use Rattle.printer.proofs.printers.+args+binds+body+child+comp+each+expr+items+kids+list+local+lone+node+one+part+piece+row+specs+values.Lts-specs as specs-lts
+use Rattle.printer.proofs.printers.+args+binds+body+child+comp+each+expr+items+kids+list+local+lone+node+one+part+piece+row+specs+stmt+stmts+values.Lts-specs as specs-lts
+use Rattle.printer.proofs.printers.stmt.Reads as stmt
+use Rattle.printer.proofs.printers.stmt.Kinds as stmt-kinds
+use Rattle.printer.proofs.printers.+args+binds+body+child+comp+each+expr+items+kids+list+local+lone+node+one+part+piece+row+specs+stmt+stmts+values.Lts-stmt as stmt-lts
+use Rattle.printer.proofs.printers.stmts.Reads as stmts
+use Rattle.printer.proofs.printers.stmts.Kinds as stmts-kinds
+use Rattle.printer.proofs.printers.+args+binds+body+child+comp+each+expr+items+kids+list+local+lone+node+one+part+piece+row+specs+stmt+stmts+values.Lts-stmts as stmts-lts
 use Rattle.printer.proofs.printers.values.Reads as values
 use Rattle.printer.proofs.printers.values.Kinds as values-kinds
-use Rattle.printer.proofs.printers.+args+binds+body+child+comp+each+expr+items+kids+list+local+lone+node+one+part+piece+row+specs+values.Lts-values as values-lts
+use Rattle.printer.proofs.printers.+args+binds+body+child+comp+each+expr+items+kids+list+local+lone+node+one+part+piece+row+specs+stmt+stmts+values.Lts-values as values-lts
 use Rattle.children.proofs.between.bounds_between.Reads as bounds-between-reads
 use Rattle.children.proofs.gap.at_child.Reads as at-child-reads
 use Rattle.children.proofs.gap.gap.Reads as gap-reads
@@ -82,6 +88,8 @@ use Rattle.printer.proofs.lists.close_word.Reads as close-word-reads
 use Rattle.printer.proofs.lists.closer.Reads as closer-reads
 use Rattle.printer.proofs.lists.empty_word.Reads as empty-word-reads
 use Rattle.printer.proofs.lists.is_empty.Reads as is-empty-reads
+use Rattle.printer.proofs.lists.keep_inline.Reads as keep-inline-reads
+use Rattle.printer.proofs.lists.keep_waiting.Reads as keep-waiting-reads
 use Rattle.printer.proofs.lists.newline_if.Reads as newline-if-reads
 use Rattle.printer.proofs.lists.open_binds.Reads as open-binds-reads
 use Rattle.printer.proofs.lists.open_list.Reads as open-list-reads
@@ -163,6 +171,12 @@ abbrev pub μ-row : Measures 4 row-kinds.ps ℕ
 
 abbrev pub μ-specs : Measures 4 specs-kinds.ps ℕ
 μ-specs κs a = size (a .1 .1 .1 .0 .now) (a .1 .1 .1 .1 .0 .0) * 6 + 2
+
+abbrev pub μ-stmt : Measures 4 stmt-kinds.ps ℕ
+μ-stmt κs a = size (a .1 .1 .1 .0 .now) (a .1 .1 .1 .1 .0 .0) * 6
+
+abbrev pub μ-stmts : Measures 4 stmts-kinds.ps ℕ
+μ-stmts κs a = size (a .1 .1 .1 .0 .now) (a .1 .1 .1 .1 .0 .0) * 6 + 1
 
 abbrev pub μ-values : Measures 4 values-kinds.ps ℕ
 μ-values κs a = size (a .1 .1 .1 .0 .now) (a .1 .1 .1 .1 .0 .0) * 6
@@ -275,6 +289,18 @@ specs-at t = and 4 specs-kinds.ps (is 4 specs-kinds.ps μ-specs t) specs.Pre
 abbrev pub specs-below : ℕ → In 4 specs-kinds.ps
 specs-below t = and 4 specs-kinds.ps (falls 4 specs-kinds.ps _<_ μ-specs t) specs.Pre
 
+abbrev pub stmt-at : ℕ → In 4 stmt-kinds.ps
+stmt-at t = and 4 stmt-kinds.ps (is 4 stmt-kinds.ps μ-stmt t) stmt.Pre
+
+abbrev pub stmt-below : ℕ → In 4 stmt-kinds.ps
+stmt-below t = and 4 stmt-kinds.ps (falls 4 stmt-kinds.ps _<_ μ-stmt t) stmt.Pre
+
+abbrev pub stmts-at : ℕ → In 4 stmts-kinds.ps
+stmts-at t = and 4 stmts-kinds.ps (is 4 stmts-kinds.ps μ-stmts t) stmts.Pre
+
+abbrev pub stmts-below : ℕ → In 4 stmts-kinds.ps
+stmts-below t = and 4 stmts-kinds.ps (falls 4 stmts-kinds.ps _<_ μ-stmts t) stmts.Pre
+
 abbrev pub values-at : ℕ → In 4 values-kinds.ps
 values-at t = and 4 values-kinds.ps (is 4 values-kinds.ps μ-values t) values.Pre
 
@@ -300,7 +326,7 @@ abbrev pub each-claims : ℕ → each-lts.Claims
 each-claims t = (end-at-reads.Asked, end-at-reads.Learnt, first-in-reads.Asked, first-in-reads.Learnt, one-below t, one.Post)
 
 abbrev pub expr-claims : ℕ → expr-lts.Claims
-expr-claims t = (first-of-reads.Asked, first-of-reads.Learnt, first-in-reads.Asked, first-in-reads.Learnt, end-at-reads.Asked, end-at-reads.Learnt, bounds-between-reads.Asked, bounds-between-reads.Learnt, values-below t, values.Post, part-below t, part.Post)
+expr-claims t = (first-of-reads.Asked, first-of-reads.Learnt, first-in-reads.Asked, first-in-reads.Learnt, end-at-reads.Asked, end-at-reads.Learnt, bounds-between-reads.Asked, bounds-between-reads.Learnt, stmts-below t, stmts.Post, part-below t, part.Post, values-below t, values.Post)
 
 abbrev pub items-claims : ℕ → items-lts.Claims
 items-claims t = (kinds-of-reads.Asked, kinds-of-reads.Learnt, gap-reads.Asked, gap-reads.Learnt, kids-below t, kids.Post)
@@ -334,6 +360,12 @@ row-claims t = (kind-at-reads.Asked, kind-at-reads.Learnt, row-of-reads.Asked, r
 
 abbrev pub specs-claims : ℕ → specs-lts.Claims
 specs-claims t = (kinds-of-reads.Asked, kinds-of-reads.Learnt, lead-reads.Asked, lead-reads.Learnt, at-child-reads.Asked, at-child-reads.Learnt, end-at-reads.Asked, end-at-reads.Learnt, gap-reads.Asked, gap-reads.Learnt, unasked-reads.Asked, unasked-reads.Learnt, child-below t, child.Post, kids-below t, kids.Post)
+
+abbrev pub stmt-claims : ℕ → stmt-lts.Claims
+stmt-claims t = (keep-waiting-reads.Asked, keep-waiting-reads.Learnt, node-below t, node.Post, keep-inline-reads.Asked, keep-inline-reads.Learnt)
+
+abbrev pub stmts-claims : ℕ → stmts-lts.Claims
+stmts-claims t = (kinds-of-reads.Asked, kinds-of-reads.Learnt, survey-reads.Asked, survey-reads.Learnt, is-stopped-reads.Asked, is-stopped-reads.Learnt, stop-at-reads.Asked, stop-at-reads.Learnt, gap-reads.Asked, gap-reads.Learnt, at-child-reads.Asked, at-child-reads.Learnt, end-at-reads.Asked, end-at-reads.Learnt, stmt-below t, stmt.Post, keep-waiting-reads.Asked, keep-waiting-reads.Learnt)
 
 abbrev pub values-claims : ℕ → values-lts.Claims
 values-claims t = (kinds-of-reads.Asked, kinds-of-reads.Learnt, survey-reads.Asked, survey-reads.Learnt, is-stopped-reads.Asked, is-stopped-reads.Learnt, stop-at-reads.Asked, stop-at-reads.Learnt, gap-reads.Asked, gap-reads.Learnt, at-child-reads.Asked, at-child-reads.Learnt, node-below t, node.Post, end-at-reads.Asked, end-at-reads.Learnt)

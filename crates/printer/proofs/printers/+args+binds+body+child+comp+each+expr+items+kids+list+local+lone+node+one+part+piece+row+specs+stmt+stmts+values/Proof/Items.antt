@@ -4,8 +4,8 @@ use native.Mathlib.Omega.{arith}
 use Rattle.plan.proofs.Laws.{by}
 use Rattle.printer.proofs.Walking.{spans-as}
 use Rattle.printer.proofs.printers.items.Reads as items
-use Rattle.printer.proofs.printers.+args+binds+body+child+comp+each+expr+items+kids+list+local+lone+node+one+part+piece+row+specs+values.Lts-items as lts
-use Rattle.printer.proofs.printers.+args+binds+body+child+comp+each+expr+items+kids+list+local+lone+node+one+part+piece+row+specs+values.Proof.Cycle.{items-at, items-claims}
+use Rattle.printer.proofs.printers.+args+binds+body+child+comp+each+expr+items+kids+list+local+lone+node+one+part+piece+row+specs+stmt+stmts+values.Lts-items as lts
+use Rattle.printer.proofs.printers.+args+binds+body+child+comp+each+expr+items+kids+list+local+lone+node+one+part+piece+row+specs+stmt+stmts+values.Proof.Cycle.{items-at, items-claims}
 use Rattle.printer.proofs.Readings.{walks-first, items-walk}
 
 returns : (t : ℕ) → lts.Need-returns (items-claims t) (items-at t) items.Post

@@ -6,8 +6,8 @@ use Rattle.printer.proofs.Walking.{after-outlined, after-foreign, outli
 use Rattle.printer.proofs.Listing.{specs-foreign}
 use Rattle.printer.proofs.Printed.{left-brace, right-brace, spec-reading, plans-comp}
 use Rattle.printer.proofs.printers.body.Reads as body
-use Rattle.printer.proofs.printers.+args+binds+body+child+comp+each+expr+items+kids+list+local+lone+node+one+part+piece+row+specs+values.Lts-body as lts
-use Rattle.printer.proofs.printers.+args+binds+body+child+comp+each+expr+items+kids+list+local+lone+node+one+part+piece+row+specs+values.Proof.Cycle.{body-at, body-claims}
+use Rattle.printer.proofs.printers.+args+binds+body+child+comp+each+expr+items+kids+list+local+lone+node+one+part+piece+row+specs+stmt+stmts+values.Lts-body as lts
+use Rattle.printer.proofs.printers.+args+binds+body+child+comp+each+expr+items+kids+list+local+lone+node+one+part+piece+row+specs+stmt+stmts+values.Proof.Cycle.{body-at, body-claims}
 use Rattle.printer.proofs.Readings.{within}
 
 returns : (t : ℕ) → lts.Need-returns (body-claims t) (body-at t) body.Post

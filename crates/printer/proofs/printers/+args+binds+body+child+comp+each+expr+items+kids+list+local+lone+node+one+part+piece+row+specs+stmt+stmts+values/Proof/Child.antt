@@ -5,8 +5,8 @@ use Rattle.plan.proofs.Laws.{_▸_, by}
 use Rattle.printer.proofs.Listing.{around-is}
 use Rattle.printer.proofs.Rowing.{kid-falls}
 use Rattle.printer.proofs.printers.child.Reads as child
-use Rattle.printer.proofs.printers.+args+binds+body+child+comp+each+expr+items+kids+list+local+lone+node+one+part+piece+row+specs+values.Lts-child as lts
-use Rattle.printer.proofs.printers.+args+binds+body+child+comp+each+expr+items+kids+list+local+lone+node+one+part+piece+row+specs+values.Proof.Cycle.{child-at, child-claims}
+use Rattle.printer.proofs.printers.+args+binds+body+child+comp+each+expr+items+kids+list+local+lone+node+one+part+piece+row+specs+stmt+stmts+values.Lts-child as lts
+use Rattle.printer.proofs.printers.+args+binds+body+child+comp+each+expr+items+kids+list+local+lone+node+one+part+piece+row+specs+stmt+stmts+values.Proof.Cycle.{child-at, child-claims}
 use Rattle.printer.proofs.Under.{kid-at, kid-print}
 
 returns : (t : ℕ) → lts.Need-returns (child-claims t) (child-at t) child.Post

@@ -3,8 +3,8 @@ use borrow.Author.Needs.{needs}
 use Rattle.plan.proofs.Laws.{_▸_}
 use Rattle.plan.specs.Words.{words}
 use Rattle.printer.proofs.printers.local.Reads as local
-use Rattle.printer.proofs.printers.+args+binds+body+child+comp+each+expr+items+kids+list+local+lone+node+one+part+piece+row+specs+values.Lts-local as lts
-use Rattle.printer.proofs.printers.+args+binds+body+child+comp+each+expr+items+kids+list+local+lone+node+one+part+piece+row+specs+values.Proof.Cycle.{local-at, local-claims}
+use Rattle.printer.proofs.printers.+args+binds+body+child+comp+each+expr+items+kids+list+local+lone+node+one+part+piece+row+specs+stmt+stmts+values.Lts-local as lts
+use Rattle.printer.proofs.printers.+args+binds+body+child+comp+each+expr+items+kids+list+local+lone+node+one+part+piece+row+specs+stmt+stmts+values.Proof.Cycle.{local-at, local-claims}
 
 returns : (t : ℕ) → lts.Need-returns (local-claims t) (local-at t) local.Post
 unfolding words

@@ -7,8 +7,8 @@ use Rattle.printer.proofs.Rowing.{kid-falls}
 use Rattle.printer.proofs.Walking.{spans-as}
 use Rattle.printer.proofs.Single.{lone-there, lone-is}
 use Rattle.printer.proofs.printers.lone.Reads as lone
-use Rattle.printer.proofs.printers.+args+binds+body+child+comp+each+expr+items+kids+list+local+lone+node+one+part+piece+row+specs+values.Lts-lone as lts
-use Rattle.printer.proofs.printers.+args+binds+body+child+comp+each+expr+items+kids+list+local+lone+node+one+part+piece+row+specs+values.Proof.Cycle.{lone-at, lone-claims}
+use Rattle.printer.proofs.printers.+args+binds+body+child+comp+each+expr+items+kids+list+local+lone+node+one+part+piece+row+specs+stmt+stmts+values.Lts-lone as lts
+use Rattle.printer.proofs.printers.+args+binds+body+child+comp+each+expr+items+kids+list+local+lone+node+one+part+piece+row+specs+stmt+stmts+values.Proof.Cycle.{lone-at, lone-claims}
 use Rattle.printer.proofs.Under.{kid-at, kid-print}
 use Rattle.printer.proofs.Readings.{walks-first, walks-kid}
 
