@@ -15,28 +15,42 @@ use Rattle.formatter.proofs.Agree.{agree, Alike, stops, gives, ends-ali
 use Rattle.formatter.proofs.Answering.{same-ok}
 
 -- Both are the same refusal, or both are items with as many runs.
-pub data Equal : Verdict → Verdict → Type 0 where
+data Equal : Verdict → Verdict → Type 0 where
   refused : (n e : ℕ) → Equal (turnedAway n e) (turnedAway n e)
   accepted : {xs ys : List Item} → runsOf xs ≡ runsOf ys → Equal (printed xs) (printed ys)
 
--- 'Refusals 1 to 13 keep their order': 1 to 10 turn a tree away in both modes, at the same element, or in neither
-pub modes-equal : (m n : Mode) (image : List ℕ) → Equal (verdict m image) (verdict n image)
-unfolding verdict fromTests fromPrinting
-modes-equal m n image = go (refusal image)
-  where
-    first : Out
-    first = sourceFile (treeOf image) (inMode m) 0
+module _ (m n : Mode) (image : List ℕ) where
+  equal : Equal (verdict m image) (verdict n image)
+  unfolding verdict fromTests fromPrinting
+  equal = go (refusal image)
+    where
+      first : Out
+      first = sourceFile (treeOf image) (inMode m) 0
 
-    second : Out
-    second = sourceFile (treeOf image) (inMode n) 0
+      second : Out
+      second = sourceFile (treeOf image) (inMode n) 0
 
-    print : (o o′ : Out) → first ≡ o → second ≡ o′ → Alike o o′ → Equal (fromPrinting o) (fromPrinting o′)
-    print o o′ e f (stops x) = refused 10 x
-    print o o′ e f (gives {xs} {ys} k) =
-        let (a, _, _) = same-ok xs k (rw e at (agree (treeOf image) (inMode m) 0)) in
-        let (b, _, _) = same-ok ys k (rw f at (agree (treeOf image) (inMode n) 0)) in
-        accepted {xs = xs} {ys = ys} (omega (arith, a, b))
+      print : (o o′ : Out) → first ≡ o → second ≡ o′ → Alike o o′ → Equal (fromPrinting o) (fromPrinting o′)
+      print o o′ e f (stops x) = refused 10 x
+      print o o′ e f (gives {xs} {ys} k) =
+          let (a, _, _) = same-ok xs k (rw e at (agree (treeOf image) (inMode m) 0)) in
+          let (b, _, _) = same-ok ys k (rw f at (agree (treeOf image) (inMode n) 0)) in
+          accepted {xs = xs} {ys = ys} (omega (arith, a, b))
 
-    go : (r : Option Refusal) → Equal (fromTests r (fromPrinting first)) (fromTests r (fromPrinting second))
-    go none = print first second refl refl (ends-alike (treeOf image) (inMode m) (inMode n) 0)
-    go (some r) = refused (r .number) (r .element)
+      go : (r : Option Refusal) → Equal (fromTests r (fromPrinting first)) (fromTests r (fromPrinting second))
+      go none = print first second refl refl (ends-alike (treeOf image) (inMode m) (inMode n) 0)
+      go (some r) = refused (r .number) (r .element)
+
+  -- what the tests 1 to 10 turn away in one mode they turn away in the other, by the same number and at the same element
+  pub refused-in-both : {r e : ℕ} → verdict m image ≡ turnedAway r e → verdict n image ≡ turnedAway r e
+  refused-in-both {r} {e} h = go (rw h at equal)
+    where
+      go : {v : Verdict} → Equal (turnedAway r e) v → v ≡ turnedAway r e
+      go (refused x y) = refl
+
+  -- what they let pass prints as many runs
+  pub printed-in-both : {xs : List Item} → verdict m image ≡ printed xs → (ys : List Item) × (verdict n image ≡ printed ys) × (runsOf xs ≡ runsOf ys)
+  printed-in-both {xs} h = go (rw h at equal)
+    where
+      go : {v : Verdict} → Equal (printed xs) v → (ys : List Item) × (v ≡ printed ys) × (runsOf xs ≡ runsOf ys)
+      go (accepted {ys = ys} i) = (ys, refl, i)
