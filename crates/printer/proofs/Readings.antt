@@ -15,7 +15,7 @@ use Rattle.tree.proofs.Children.{table}
 use Rattle.children.specs.declared.between.Bounds.{Bounds}
 use Rattle.children.specs.declared.gap.End.the-variants as End
 use Rattle.children.specs.declared.gap.Span.{Span}
-use Rattle.children.specs.Reading.{read}
+use Rattle.children.specs.Reading.{Child, read}
 use Rattle.children.specs.Stretch.{Stretch, here, jump}
 use Rattle.children.specs.Spans.{Spans, spanned}
 use Rattle.children.specs.Between.{Bounded}
@@ -24,8 +24,8 @@ use Rattle.children.proofs.Whole.{whole}
 use Rattle.children.proofs.Stretch.{stretch-both}
 use Rattle.printer.specs.Print.{partOr, children}
 use Rattle.printer.specs.Under.{At, Kid}
-use Rattle.printer.specs.Walked.{around, walked}
-use Rattle.printer.proofs.Walked.{children-turn, walk-read}
+use Rattle.printer.specs.Walked.{Turn, around, walked}
+use Rattle.printer.proofs.Walked.{InTurn, children-turn, walk-read}
 use Rattle.printer.proofs.Under.{kid-of, kid-at}
 use Rattle.printer.specs.Reads.{numberOr, Within, readAt, Whole, kidsIn, Walks}
 
@@ -73,7 +73,12 @@ walks-next h e q k = record {
 }
 
 -- the children of a reading, printed by a walk from its first gap
+pub read-walk : {F : List Child → Print} {turn : Turn} (t : InTurn F turn) (c : Class) {image index : List ℕ} {z : Bounds} {s : Span} → Spans image index (kinds c) (z .loose) false (z .from) (z .to) s
+    → (r : Whole (readAt image index c z nothing)) → F (r .kids) ≡ walked turn (spanned image index (kinds c) (z .loose) (z .to) s)
+read-walk t c {z = z} h r = walk-read t _ (sym (whole c (z .loose) _) ∙ r .is) ∙ rw (h .read)
+
+-- those of a list
 pub items-walk : (c : Class) (pr : ℕ → Print) (f g : Bool → Print) {image index : List ℕ} {z : Bounds} {s : Span} → Spans image index (kinds c) (z .loose) false (z .from) (z .to) s
     → Whole (readAt image index c z nothing) → children pr f g (kidsIn (readAt image index c z nothing)) ≡ walked (around pr f g) (spanned image index (kinds c) (z .loose) (z .to) s)
 unfolding kidsIn
-items-walk c pr f g {z} h r = rw (r .is, ← (h .read)) (walk-read (children-turn pr f g) _ (sym (whole c (z .loose) _) ∙ r .is))
+items-walk c pr f g h r = rw (r .is) (read-walk (children-turn pr f g) c h r)

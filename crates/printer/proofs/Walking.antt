@@ -1,5 +1,5 @@
 -- The laws of walks over the children of a reading.
-use mathlib.Core.Path.{_≡_, sym, _∙_}
+use mathlib.Core.Path.{_≡_, _∙_}
 use mathlib.Core.Bool.{Bool, true, false}
 use mathlib.Core.Option.{none as nothing, some}
 use mathlib.Core.List.{List, []}
@@ -21,21 +21,20 @@ use Rattle.tree.proofs.Siblings.{parts-over}
 use Rattle.children.specs.declared.between.Bounds.{Bounds}
 use Rattle.children.specs.declared.gap.Span.{Span}
 use Rattle.children.specs.declared.survey.Outline.{Outline}
-use Rattle.children.specs.Reading.{Child, Reading, foreign, read, pass}
+use Rattle.children.specs.Reading.{Reading, foreign, pass}
 use Rattle.children.specs.Lead.{SurveyedAfter}
 use Rattle.children.specs.Gaps.{Gap, gapOf, isChild, isForeign}
 use Rattle.children.specs.Spans.{Lies, Spans, Surveyed, spanned, gapAt}
 use Rattle.children.proofs.Uses.{child-is, span-reached, survey-reading, survey-after-reading}
-use Rattle.children.proofs.Whole.{whole}
 use Rattle.children.proofs.Stretch.{jumps-le}
 use Rattle.printer.specs.Print.{statements, statementsOf, values, valuesOf}
 use Rattle.printer.proofs.Seq.{none-first, keeping-none, Goes, goes-none, goes-more, goes-all}
 use Rattle.printer.specs.Under.{under, printOf}
 use Rattle.printer.specs.Walked.{Turn, around, stated, alone, walked, Outlined}
 use Rattle.printer.specs.Reads.{Within, Whole, readAt, kidsIn, Walks}
-use Rattle.printer.proofs.Walked.{InTurn, statements-turn, values-turn, outlined, outlined-foreign, walk-next, walk-none, walk-read}
+use Rattle.printer.proofs.Walked.{statements-turn, values-turn, outlined, outlined-foreign, walk-next, walk-none}
 use Rattle.printer.proofs.Under.{kid-print, kid-at}
-use Rattle.printer.proofs.Readings.{walks-first, walks-kid, walks-next}
+use Rattle.printer.proofs.Readings.{walks-first, walks-kid, walks-next, read-walk}
 
 -- ---- what a survey says
 
@@ -57,7 +56,7 @@ module _ (c : Class) {image index : List ℕ} {z : Bounds} {w : Kinds} {s : Span
   after-foreign i e = outlined-foreign i _ (survey-after-reading c (rw k at h)) e
 
 -- a reading that comes to its end has no foreign element
-pub outlined-whole : {index image : List ℕ} {r : Reading} {o : Outline} → Outlined image index r o → Whole r
+abbrev pub outlined-whole : {index image : List ℕ} {r : Reading} {o : Outline} → Outlined image index r o → Whole r
 outlined-whole x = record { kids = x .kids; ending = x .ending; is = x .is }
 
 -- and as many children as it says
@@ -138,24 +137,19 @@ module _ {image index : List ℕ} {w : Kinds} {z : Bounds} {s : Span} {o : Held}
   unfolding alone
   valuing-more r j e q k p = record { walking = λ h. walking-more (r .walking h) j e q k (by (kid-print (walks-kid (r .walking h .walks) (child-is (s .end) j e))) p) }
 
--- the children of a reading, walked from its first gap
-walked-read : {F : List Child → Print} {turn : Turn} (t : InTurn F turn) (c : Class) {image index : List ℕ} {w : Kinds} {z : Bounds} {s : Span} {out : Outline} → w ≡ kinds c → Spans image index w (z .loose) false (z .from) (z .to) s
-    → (x : Outlined image index (readAt image index c z nothing) out) → F (x .kids) ≡ walked turn (spanned image index (kinds c) (z .loose) (z .to) s)
-walked-read t c {z = z} k p x = walk-read t _ (sym (whole c (z .loose) _) ∙ x .is) ∙ rw (← k, p .read)
-
 module _ {image index : List ℕ} {i : ℕ} {w : Kinds} {z : Bounds} {s s₀ : Span} {o a : Held} {out : Outline} {v : Bool} where
   -- the suffixes of a reading
   pub valuing-all : (c : Class) → Within image index i z → w ≡ kinds c → Spans image index w (z .loose) false (z .from) (z .to) s₀
       → Outlined image index (readAt image index c z nothing) out → Valuing image index w z s₀ o a s → v ≡ isChild (s .end) → v ≡ false → Plans (sourceAt image index) (valuesOf (under image i) (readAt image index c z nothing)) o a
   unfolding valuesOf
-  valuing-all c n k p x h j e = by (rw (x .is) (walked-read (values-turn (under image i)) c k p x)) (walking-all c k (h .walking n) j e)
+  valuing-all c n k p x h j e = by (rw (x .is) (read-walk (values-turn (under image i)) c (spans-as k p) (outlined-whole x))) (walking-all c k (h .walking n) j e)
 
   -- the statements of a reading, and what is left behind them
   pub stating-all : (c : Class) → w ≡ kinds c → Spans image index w (z .loose) false (z .from) (z .to) s₀
       → Outlined image index (readAt image index c z nothing) out → Walking image index i w (z .loose) (z .to) (stated (under image i)) s₀ o a s → v ≡ isChild (s .end) → v ≡ false
       → {d : Held} → Plans (sourceAt image index) (keeping (comments (gapAt image index (out .last) .waiting) endOfItems)) a d → Plans (sourceAt image index) (statementsOf (under image i) (readAt image index c z nothing)) o d
   unfolding statementsOf
-  stating-all c k p x h j e q = by (rw (x .is, x .waits, walked-read (statements-turn (under image i)) c k p x)) (walking-all c k h j e ▸ q)
+  stating-all c k p x h j e q = by (rw (x .is, x .waits, read-walk (statements-turn (under image i)) c (spans-as k p) (outlined-whole x))) (walking-all c k h j e ▸ q)
 
 -- no element
 module _ (pr : ℕ → Print) (c : Class) (index image : List ℕ) (z : Bounds) (h : z .to ≤ z .from) where
