@@ -1,4 +1,6 @@
 // What the test programs share: reading files of cases, storing into buffers, and counting answers.
+#![tactic(auto)]
+
 mod fields;
 mod read;
 mod store;

@@ -5,7 +5,7 @@ ghost use Rattle.cases.specs.Tally.{more_if};
 use libc::STDOUT_FILENO;
 
 // How many answers were compared, and how many were as expected.
-#[derive(Drop)]
+#[derive(Clone, Copy)]
 pub struct Agreement {
     pub seen: u64,
     pub right: u64,

@@ -13,7 +13,7 @@ use tree::access::{end_at, kind_at};
 use tree::class::is;
 
 // The trivia and custom errors from one element up to another, unless a foreign element stands there.
-#[derive(Drop)]
+#[derive(Clone, Copy)]
 pub struct Notes {
     pub from: u32,
     pub to: u32,

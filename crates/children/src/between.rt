@@ -7,7 +7,7 @@ use tree::access::end_at;
 use tree::{Found, is_nothing};
 
 // Where a reading begins and ends, and whether it is loose.
-#[derive(Drop)]
+#[derive(Clone, Copy)]
 pub struct Bounds {
     pub from: u32,
     pub to: u32,

@@ -11,7 +11,7 @@ use tree::access::{end_at, kind_at};
 use tree::class::Kinds;
 
 // What ends a gap: a child, the end of the reading, a foreign element.
-#[derive(Drop)]
+#[derive(Clone, Copy)]
 pub enum End {
     Child,
     Last,
@@ -20,7 +20,7 @@ pub enum End {
 
 // A gap: where it begins, the cut between inline and waiting trivia, where it ends; whether a child or trivia came so far;
 // what ends it; and what it holds.
-#[derive(Drop)]
+#[derive(Clone, Copy)]
 pub struct Span {
     pub from: u32,
     pub cut: u32,

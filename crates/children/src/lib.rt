@@ -1,4 +1,6 @@
 // children.rs: which trivia belongs to which child. A reading is walked, and no list is stored.
+#![tactic(auto)]
+
 pub mod around;
 pub mod between;
 pub mod gap;

@@ -14,7 +14,7 @@ use tree::class::Kinds;
 
 // What a reading comes to: how many children, whether one triggers many lines, whether a blank line is asked for behind
 // them, and the last gap, which ends it. Where a foreign element stops it there are no children and no lines.
-#[derive(Drop)]
+#[derive(Clone, Copy)]
 pub struct Outline {
     pub children: u32,
     pub many: bool,

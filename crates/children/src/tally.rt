@@ -7,7 +7,7 @@ use numbers::kind::WHITESPACE;
 
 // What a gap holds so far: the newlines of what waits; those of its inline trivia, from behind; whether anything waits;
 // whether trivia waits that is no whitespace, behind which no newline counts; and whether there is anything but whitespace.
-#[derive(Drop)]
+#[derive(Clone, Copy)]
 pub struct Tally {
     pub before: usize,
     pub back: usize,

@@ -25,7 +25,7 @@ pub const BASIS: u32 = 2166136261;
 const PRIME: u64 = 16777619;
 
 // A digest of each reading: strict, loose, and the same with a trailing list.
-#[derive(Drop)]
+#[derive(Clone, Copy)]
 pub struct Digests {
     pub strict: u32,
     pub loose: u32,

@@ -1,6 +1,8 @@
 // Surveys and walks all sequences of up to seven elements by crate `children`, strict and loose, with and without a
 // trailing list, and prints how many readings of each length come to the stored digest, and how many sequences of a
 // sample come to the stored answers.
+#![tactic(auto)]
+
 mod answer;
 mod sequence;
 
@@ -100,7 +102,7 @@ fn agrees(v: &[u8]) -> bool {
 }
 
 // The sequences of a sample, and how many of them agree before the first that does not.
-#[derive(Drop)]
+#[derive(Clone, Copy)]
 struct Sample {
     found: Agreement,
     before: u64,

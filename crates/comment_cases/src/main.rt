@@ -1,4 +1,6 @@
 // Replays comment tokens that the original printed, at each of their three places, and prints how many agree.
+#![tactic(auto)]
+
 mod large;
 mod replay;
 

@@ -1,4 +1,6 @@
 // The items of comments: `format_comments`, one trivia token or custom error at a time.
+#![tactic(auto)]
+
 mod block;
 mod plain;
 mod rows;
@@ -13,7 +15,7 @@ use items::Printed;
 use numbers::kind;
 
 // Where a comment stands.
-#[derive(Drop)]
+#[derive(Clone, Copy)]
 pub enum CommentLocation {
     // Above local, field, other things.
     AboveItem,

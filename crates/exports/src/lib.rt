@@ -1,4 +1,6 @@
 // Functions for programs in other languages. `oracle/crates/compare` calls them from Rust.
+#![tactic(auto)]
+
 pub mod print;
 
 ghost use Rattle.std.specs.Prelude.{◌≡◌};
@@ -74,7 +76,7 @@ pub extern "C" fn tungvesk_comment(
 }
 
 // A refusal of document 01 with its element and 0, or 0 with N and B.
-#[derive(Drop)]
+#[derive(Clone, Copy)]
 struct Verdict(u32, u32, u32);
 
 fn say(t: Tested) -> Verdict

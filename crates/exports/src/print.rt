@@ -16,7 +16,7 @@ use numbers::refusal::{Refusal, number_of};
 const UNKNOWN_MODE: u32 = 254;
 
 // The mode with a number, or that no mode has it.
-#[derive(Drop)]
+#[derive(Clone, Copy)]
 enum Chosen {
     Known(Mode),
     Unknown,
@@ -33,7 +33,7 @@ fn mode_with(n: u32) -> Chosen
 }
 
 // A refusal of document 01 with its element, or 0 with the counts and the bytes of the listing.
-#[derive(Drop)]
+#[derive(Clone, Copy)]
 struct Report {
     number: u32,
     counts: Count,

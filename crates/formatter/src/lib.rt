@@ -1,4 +1,6 @@
 // The calls from a tree image to print items and to their listing.
+#![tactic(auto)]
+
 pub mod program;
 mod serve;
 
@@ -13,14 +15,14 @@ use numbers::refusal::Refusal;
 use serve::{Wanted, serve};
 
 // Why a tree was turned away, or the counts of what was printed.
-#[derive(Drop)]
+#[derive(Clone, Copy)]
 pub enum Answer {
     Refused(Refusal),
     Printed(Count),
 }
 
 // Why a tree was turned away, or the counts of what was printed and the bytes of its listing.
-#[derive(Drop)]
+#[derive(Clone, Copy)]
 pub enum ListAnswer {
     Refused(Refusal),
     Listed { counts: Count, bytes: usize },

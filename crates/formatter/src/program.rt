@@ -15,7 +15,7 @@ const TEXT_BYTES: usize = 32_000;
 const LISTING_BYTES: usize = 65_536;
 
 // The number of a refusal, or 0 for a listing, and how many bytes are printed.
-#[derive(Drop)]
+#[derive(Clone, Copy)]
 pub struct Response {
     pub number: u32,
     pub bytes: usize,

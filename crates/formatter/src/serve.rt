@@ -45,21 +45,21 @@ const EACH_BYTE: usize = 4;
 const EACH_RECORD: usize = 39;
 
 // What a call asks for: a mode, and whether what is printed is listed.
-#[derive(Drop)]
+#[derive(Clone, Copy)]
 pub struct Wanted {
     pub mode: Mode,
     pub listed: bool,
 }
 
 // How many operations a plan has, and how many runs they begin.
-#[derive(Drop)]
+#[derive(Clone, Copy)]
 struct Plan {
     operations: usize,
     runs: u32,
 }
 
 // What planning comes to: the element at which the Rust stops, a plan, or a full array.
-#[derive(Drop)]
+#[derive(Clone, Copy)]
 enum Outlook {
     Stops(Element),
     Prints(Plan),
@@ -67,14 +67,14 @@ enum Outlook {
 }
 
 // What an array of operations comes to: an answer, or it is full.
-#[derive(Drop)]
+#[derive(Clone, Copy)]
 enum Attempt {
     Answered(ListAnswer),
     Full,
 }
 
 // Whether buffers have room, or which is too short.
-#[derive(Drop)]
+#[derive(Clone, Copy)]
 enum Room {
     Enough,
     Short(Reason),

@@ -1,4 +1,6 @@
 // Print items, written as records into lent buffers.
+#![tactic(auto)]
+
 pub mod lines;
 pub mod names;
 
@@ -11,7 +13,7 @@ ghost use Rattle.items.specs.Names.{line_length};
 use numbers::Mark;
 
 // What was printed: records, bytes of their texts, runs and marks.
-#[derive(Drop)]
+#[derive(Clone, Copy)]
 pub struct Count {
     pub records: u32,
     pub texts: u32,
@@ -20,7 +22,7 @@ pub struct Count {
 }
 
 // How much is put: records, bytes of their texts and, where the records are listed, of the lines that list them.
-#[derive(Drop)]
+#[derive(Clone, Copy)]
 pub struct Size {
     pub records: u32,
     pub texts: u32,
@@ -29,14 +31,14 @@ pub struct Size {
 }
 
 // How far printing has come. It is full where a number of the size or an operand would no longer fit 32 bits.
-#[derive(Drop)]
+#[derive(Clone, Copy)]
 pub enum Printed {
     Done(Size),
     Full,
 }
 
 // An item without operands.
-#[derive(Drop)]
+#[derive(Clone, Copy)]
 pub enum Signal {
     NewLine,
     SpaceOrNewLine,
@@ -52,7 +54,7 @@ pub enum Signal {
 }
 
 // What a condition tests: nothing, or whether the lines of a mark and of the next one differ.
-#[derive(Drop)]
+#[derive(Clone, Copy)]
 pub enum Condition {
     Always,
     Lines(Mark),
@@ -106,7 +108,7 @@ const LINES: u64 = 1;
 const LIMIT: u64 = 0x1_0000_0000;
 
 // A record, and the bytes of its text.
-#[derive(Drop)]
+#[derive(Clone, Copy)]
 struct Entry {
     kind: u32,
     first: u64,
@@ -115,7 +117,7 @@ struct Entry {
 }
 
 // Room for a record whose line counts so many bytes, or none where a number does not fit.
-#[derive(Drop)]
+#[derive(Clone, Copy)]
 enum Room {
     Line(u32),
     Nowhere,

@@ -10,7 +10,7 @@ ghost use Rattle.items.specs.Names.{names_of, name_at};
 use super::put_bytes;
 use numbers::wide;
 
-#[derive(Drop)]
+#[derive(Clone, Copy)]
 pub enum Table {
     Kinds,
     Others,

@@ -1,4 +1,6 @@
 // The listing of records, written into a lent buffer.
+#![tactic(auto)]
+
 ghost use Rattle.std.specs.Prelude.{◌≡◌, [], ◌∷◌, ℕ, ◌<◌, ◌+◌, ◌≤◌, length};
 ghost use Rattle.text.specs.Basic.{ascii};
 ghost use Rattle.items.specs.Lines.{decimal, field};

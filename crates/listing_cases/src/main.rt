@@ -1,4 +1,6 @@
 // Writes three listings: that of `[1]`, as the scope paper has it, one with every kind of record, and the beginning of the first in a short buffer.
+#![tactic(auto)]
+
 ghost use Rattle.listing.specs.Listable.{Listable};
 
 use cases::front;

@@ -3,7 +3,7 @@ ghost use Rattle.std.specs.Prelude.{◌≡◌};
 ghost use Rattle.numbers.specs.Mode.{mode_number};
 
 // Plain: as the Rust prints. Keeping: with the comments around the statements of an expression.
-#[derive(Drop)]
+#[derive(Clone, Copy)]
 pub enum Mode {
     Plain,
     Keeping,

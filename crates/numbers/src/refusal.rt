@@ -5,7 +5,7 @@ ghost use Rattle.numbers.specs.Refusal.{number_of};
 use super::Element;
 
 // The reasons 1 to 13 of document 01 in order.
-#[derive(Drop)]
+#[derive(Clone, Copy)]
 pub enum Reason {
     WrongLength,
     OutOfLimits,
@@ -23,7 +23,7 @@ pub enum Reason {
 }
 
 // A refusal: its reason, and the first offending element, 0 for a reason that names none.
-#[derive(Drop)]
+#[derive(Clone, Copy)]
 pub struct Refusal {
     pub reason: Reason,
     pub element: Element,

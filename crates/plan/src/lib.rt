@@ -1,5 +1,7 @@
 // A plan of what is to be printed: operations, a number each, which planners add to a lent array. How far planning has come
 // stands in a few lent cells. `write` makes records and texts of a plan.
+#![tactic(auto)]
+
 pub mod notes;
 pub mod words;
 pub mod write;

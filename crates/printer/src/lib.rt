@@ -1,4 +1,6 @@
 // lib.rs: what each node of the tree prints, as operations of a plan.
+#![tactic(auto)]
+
 mod lists;
 mod look;
 mod pieces;

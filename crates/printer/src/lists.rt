@@ -27,7 +27,7 @@ use tree::class::Class;
 
 // The kinds of lists: elements of an array or members of an object; arguments; members of an object comprehension, and its
 // CompSpecs; binds.
-#[derive(Drop)]
+#[derive(Clone, Copy)]
 pub enum Style {
     Elements,
     Arguments,
@@ -294,7 +294,7 @@ pub fn close_arguments(
 }
 
 // Lists with a text of their own where they are empty: the elements of an array, the members of an object.
-#[derive(Drop)]
+#[derive(Clone, Copy)]
 pub enum ListKind {
     Array,
     Object,

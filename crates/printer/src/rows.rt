@@ -23,7 +23,7 @@ pub const EACH_ENDED: u32 = 6;
 
 // A piece: whether it goes by other parts, and then only if one of two is there, where any is named, and a third is not; what it prints,
 // of which part, with which text.
-#[derive(Drop)]
+#[derive(Clone, Copy)]
 pub struct Entry {
     pub tested: bool,
     pub given: u32,
@@ -35,7 +35,7 @@ pub struct Entry {
 }
 
 // The pieces of a row, from one to before another, and 1 if the parts of its node are marked first.
-#[derive(Drop)]
+#[derive(Clone, Copy)]
 pub struct Extent {
     pub start: u32,
     pub end: u32,

@@ -1,4 +1,6 @@
 // Byte leaves: UTF-8, white space, padding and lines of byte strings.
+#![tactic(auto)]
+
 mod class;
 mod lines;
 mod prefix;

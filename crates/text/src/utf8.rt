@@ -11,7 +11,7 @@ pub const TAIL_LOW: u8 = 0x80;
 const TAIL_HIGH: u8 = 0xbf;
 
 // What a text owes before it may end.
-#[derive(Drop)]
+#[derive(Clone, Copy)]
 pub enum Owed {
     // The text is wrong, however it goes on.
     Wrong,

@@ -1,5 +1,7 @@
 // Runs the functions of crate `text` on every string of one and of two bytes and on the vectors of
 // data/vectors.bin, and prints what it counted.
+#![tactic(auto)]
+
 ghost use Rattle.std.specs.Prelude.{◌≡◌, ◌+◌, ◌%◌, ◌^◌};
 
 use cases::{Agreement, behind_fields, front, line, load, nth_field, number};
@@ -30,7 +32,7 @@ const ONES: usize = 256;
 const TWOS: usize = ONES * ONES;
 
 // What was counted over a set of strings.
-#[derive(Drop)]
+#[derive(Clone, Copy)]
 struct Tally {
     valid: u64,
     trimmed: u64,

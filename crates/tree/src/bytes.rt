@@ -9,7 +9,7 @@ pub const LEVEL: usize = 2;
 pub const LENGTH: usize = 4;
 
 // The eight bytes of an element.
-#[derive(Drop)]
+#[derive(Clone, Copy)]
 pub struct Header {
     pub kind: u32,
     pub level: u16,

@@ -5,7 +5,7 @@ ghost use Rattle.tree.specs.Class.{kinds, one_of};
 use numbers::kind;
 
 // What accessors and readings look for.
-#[derive(Drop)]
+#[derive(Clone, Copy)]
 pub enum Class {
     Expr,
     ExprBase,
@@ -61,7 +61,7 @@ pub enum Class {
 }
 
 // The kinds of a class: from lo to hi, but for one; no kind is 0.
-#[derive(Drop)]
+#[derive(Clone, Copy)]
 pub struct Kinds {
     pub lo: u32,
     pub hi: u32,

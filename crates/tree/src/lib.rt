@@ -1,4 +1,6 @@
 // The tree image: why an image is turned away, and the index of its tree.
+#![tactic(auto)]
+
 pub mod access;
 mod bytes;
 pub mod class;
@@ -20,7 +22,7 @@ pub use read::{byte_count, element_count};
 use refuse::Test;
 
 // The element that was looked for.
-#[derive(Drop)]
+#[derive(Clone, Copy)]
 pub enum Found {
     At(Element),
     Nothing,
@@ -47,7 +49,7 @@ pub fn or_else(first: Found, second: Found) -> Found
 }
 
 // What the tests 1 to 9 say of an image: why it is turned away, or how many elements and bytes of text it has.
-#[derive(Drop)]
+#[derive(Clone, Copy)]
 pub enum Tested {
     Refused(Refusal),
     Accepted { elements: u32, bytes: u32 },

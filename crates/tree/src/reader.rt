@@ -9,7 +9,7 @@ ghost use Rattle.tree.specs.Image.{header_at};
 use super::bytes;
 use super::bytes::Header;
 
-#[derive(Drop)]
+#[derive(Clone, Copy)]
 pub struct Reader<'a> {
     pub image: &'a [u8],
     pub at: usize,

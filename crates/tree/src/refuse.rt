@@ -20,7 +20,7 @@ pub const MAX_LEVEL: u32 = 200;
 
 // A test that looks at one element: for one of an unknown kind (3), a node with a length (5), a token whose text is not valid
 // UTF-8 (6), a string block (7), a misformed comment (8).
-#[derive(Drop)]
+#[derive(Clone, Copy)]
 pub enum Test {
     UnknownKind,
     NodeWithText,

@@ -1,5 +1,7 @@
 // Runs crate `tree` on the images of data/vectors.bin and on every damaged copy of one image, of data/damaged.bin, and
 // prints how many answers agree with those in the files.
+#![tactic(auto)]
+
 ghost use Rattle.std.specs.Prelude.{◌≡◌, slice_index};
 ghost use Rattle.tree.specs.Index.{Indexed};
 
@@ -37,7 +39,7 @@ const TABLE: usize = 12291;
 const FILE: usize = 524288;
 
 // An answer of the tests: the refusal's number, or 0, and the element.
-#[derive(Drop)]
+#[derive(Clone, Copy)]
 struct Answer {
     number: usize,
     element: usize,

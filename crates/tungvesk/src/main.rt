@@ -1,4 +1,6 @@
 // Prints the listing of the tree image on standard input in the plain mode, or the line of its refusal.
+#![tactic(auto)]
+
 ghost use Rattle.std.specs.Prelude.{◌≡◌, ◌+◌, ◌≤◌, length, take};
 ghost use Rattle.tungvesk.specs.Input.{bytes_of};
 
@@ -7,7 +9,7 @@ use libc::{STDIN_FILENO, STDOUT_FILENO};
 use numbers::mode::Mode;
 
 // How many bytes were read, or that reading failed.
-#[derive(Drop)]
+#[derive(Clone, Copy)]
 enum Input {
     Bytes(usize),
     Failed,

@@ -1,5 +1,7 @@
 // Replays the images of data/vectors.bin and data/keeping.bin through what the program prints, those of the second in the keeping
 // mode, and prints how many of the answers that each file has agree.
+#![tactic(auto)]
+
 ghost use Rattle.vectors.specs.Replies.{Replies};
 
 use cases::{behind_long_field, front, line, load, long_field};
