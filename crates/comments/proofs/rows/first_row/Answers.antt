@@ -1,0 +1,19 @@
+use Prim.Native.Nat.{◌-◌}
+use native.Mathlib.Omega.{arith}
+use Rattle.comments.proofs.Walks.{row-less, skipping_none, skipping-more, skipping-stop, skipping_all}
+use Rattle.comments.proofs.rows.first_row.Goals as goal
+
+pub loop-i-init : goal.loop-i-init
+loop-i-init c = search skipping_none
+
+pub returns-then-l-gt0 : goal.returns-then-l-gt0
+returns-then-l-gt0 c = (skipping-stop c.loop-i.invariant c.loop-i-test.true c.row-l.ensures c.if-l-gt0.true, λ h. c.next_row-next.ensures)
+
+pub loop-i-smaller : goal.loop-i-smaller
+loop-i-smaller c = search row-less
+
+pub loop-i-preserved : goal.loop-i-preserved
+loop-i-preserved c = search skipping-more
+
+pub returns : goal.returns
+returns c = (skipping_all c.loop-i.invariant c.loop-i-test.false, λ h. absurd (omega arith))

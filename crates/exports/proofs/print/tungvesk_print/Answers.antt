@@ -1,0 +1,14 @@
+use mathlib.Core.Path.{refl}
+use Rattle.exports.specs.Print.{by_mode}
+use Rattle.exports.proofs.Answers.{known, unknown}
+use Rattle.exports.proofs.print.tungvesk_print.Goals as goal
+
+pub returns-in_default : goal.returns-in_default
+unfolding by_mode
+returns-in_default c = rw (unknown c.mode_with-chosen.ensures c.in_default.is) (refl, (refl, (refl, refl)))
+
+pub returns : goal.returns
+unfolding by_mode
+returns c =
+    let e = known c.mode_with-chosen.ensures c.in-Known.is in
+    rw (e, ← c.print_items.ensures.result_value, ← c.report_of-r.ensures.answered, ← c.report_of-r.ensures.valued) (refl, (refl, (c.print_items.ensures.records_after, c.print_items.ensures.texts_after)))

@@ -1,0 +1,7 @@
+use mathlib.Core.Path.{refl}
+use Rattle.exports.specs.Comment.{code, counts_after}
+use Rattle.exports.proofs.tell.Goals as goal
+
+pub returns-in-Done : goal.returns-in-Done
+unfolding code counts_after
+returns-in-Done c = rw c.in-Done.is (refl, refl)

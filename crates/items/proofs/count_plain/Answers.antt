@@ -1,0 +1,26 @@
+use mathlib.Core.Path.{refl}
+use native.Mathlib.Omega.{arith}
+use Rattle.items.proofs.Emits.{plain_fits, plain-sized}
+use Rattle.items.proofs.count_plain.Goals as goal
+
+pub overflow_cast-e : goal.overflow_cast-e
+overflow_cast-e c =
+    let h = c.requires in omega (arith, (plain_fits _ _ h.le_kind h.kind_bound c.args.p c.plain_entry-e.ensures refl h.p_value).first)
+
+pub overflow_cast-e-2 : goal.overflow_cast-e-2
+overflow_cast-e-2 c =
+    let h = c.requires in omega (arith, (plain_fits _ _ h.le_kind h.kind_bound c.args.p c.plain_entry-e.ensures refl h.p_value).second)
+
+pub overflow_cast-line : goal.overflow_cast-line
+overflow_cast-line c = omega (arith, (fits c tt).lines)
+
+pub advanced-requires : goal.advanced-requires
+advanced-requires c =
+    let h = c.requires in
+    let r = (plain_fits _ _ h.le_kind h.kind_bound c.args.p c.plain_entry-e.ensures c.line_if-line.ensures h.p_value).after in
+    record { records = r.records; texts = omega (arith, r.texts); lines = r.lines }
+
+pub returns : goal.returns
+returns c =
+    let h = c.requires in
+    plain-sized _ _ h.le_kind h.kind_bound c.args.p c.plain_entry-e.ensures c.line_if-line.ensures c.advanced.ensures

@@ -1,0 +1,16 @@
+use mathlib.Core.Path.{refl}
+use native.Mathlib.Omega.{arith}
+use Rattle.items.proofs.Emits.{one-fits, one-sized}
+use Rattle.items.proofs.count_text.Goals as goal
+
+pub overflow_cast-bytes : goal.overflow_cast-bytes
+overflow_cast-bytes c = omega (arith, (one-fits _ _ c.requires refl).second)
+
+pub overflow_cast-line : goal.overflow_cast-line
+overflow_cast-line c = omega (arith, (one-fits _ _ c.requires c.line_if-line.ensures).after.lines)
+
+pub advanced-requires : goal.advanced-requires
+advanced-requires c = (one-fits _ _ c.requires c.line_if-line.ensures).after
+
+pub returns : goal.returns
+returns c = one-sized _ _ c.line_if-line.ensures c.advanced.ensures

@@ -1,0 +1,29 @@
+use mathlib.Core.Path.{◌≡◌}
+use Prim.Native.Nat.{◌+◌}
+use native.Mathlib.Omega.{arith}
+use lib.ListN.{length}
+use Rattle.items.specs.Lines.{decimal}
+use Rattle.items.proofs.Decimals.{four_shorter, decimal-short}
+use Rattle.items.proofs.lines.decimal_length.Goals as goal
+
+-- the digits that were counted and those of the rest are those of n
+abbrev invariant-loop : tie.invariant-loop
+invariant-loop n digits₀ rest₀ digits rest = digits + length (decimal rest) ≡ length (decimal n)
+
+pub loop-rest-init : goal.loop-rest-init
+loop-rest-init c = omega arith
+
+pub overflow_add-digits : goal.overflow_add-digits
+overflow_add-digits c = omega (arith, decimal-short c.args.n (omega arith), c.loop-rest.invariant)
+
+pub loop-rest-smaller : goal.loop-rest-smaller
+loop-rest-smaller c = omega arith
+
+pub loop-rest-preserved : goal.loop-rest-preserved
+loop-rest-preserved c = omega (arith, four_shorter _ c.loop-rest-test.true, c.loop-rest.invariant)
+
+pub overflow_add-result : goal.overflow_add-result
+overflow_add-result c = omega (arith, decimal-short c.args.n (omega arith), c.loop-rest.invariant, c.few_digits.ensures)
+
+pub returns : goal.returns
+returns c = omega (arith, c.loop-rest.invariant, c.few_digits.ensures)

@@ -1,0 +1,18 @@
+use mathlib.Core.Path.{◌∙◌}
+use mathlib.Core.List.{flatten}
+use Rattle.items.specs.Lines.{kind_names}
+use Rattle.items.specs.Names.{other_names}
+use Rattle.items.proofs.Naming.{kinds-in, kinds-start, others-in, others-start}
+use Rattle.items.proofs.names.start_of.Goals as goal
+
+-- dropped? array-read-from-u8: λ c. kinds-in c.enum_told.given.1 _ c.before.before.requires
+
+-- dropped? array-read-from-u8-2: λ c. others-in c.enum-told2.given.1 _ c.before.before.requires
+
+pub returns-in-Kinds : goal.returns-in-Kinds
+unfolding kind_names flatten
+returns-in-Kinds c = c.from_u8.ensures ∙ kinds-start c.in-Kinds.is _ c.requires
+
+pub returns-in-Others : goal.returns-in-Others
+unfolding other_names flatten
+returns-in-Others c = c.from_u8-in-Others.ensures ∙ others-start c.in-Others.is _ c.requires

@@ -1,0 +1,23 @@
+use borrow.Author.Rules.{rules}
+use native.Mathlib.Omega.{arith}
+use Rattle.plan.proofs.Cells.{always-planned, lines-planned, carried-always, carried-lines}
+use Rattle.plan.proofs.Laws.{blank}
+use Rattle.plan.proofs.plan_if.Goals as goal
+
+pub add_numbered-requires : goal.add_numbered-requires
+add_numbered-requires c = omega arith
+
+pub add_numbered-requires-in-Lines : goal.add_numbered-requires-in-Lines
+add_numbered-requires-in-Lines c = omega arith
+
+pub shape_of-ops-in-Always : goal.shape_of-ops-in-Always
+shape_of-ops-in-Always c = (returns c blank).same_ops
+
+pub returns-in-Always : goal.returns-in-Always
+returns-in-Always c = always-planned s c.args.t (search rules) (c.add_numbered.ensures s (carried-always s 0 (omega arith)))
+
+pub shape_of-ops-in-Lines : goal.shape_of-ops-in-Lines
+shape_of-ops-in-Lines c = (returns_2 c blank).same_ops
+
+pub returns-in-Lines : goal.returns-in-Lines
+returns-in-Lines c = lines-planned s c.args.t _ (search rules) (c.add_numbered-in-Lines.ensures s (carried-lines s _))

@@ -1,0 +1,17 @@
+use borrow.Author.Rules.{rules}
+use native.Mathlib.Omega.{arith}
+use Rattle.plan.proofs.Cells.{carried-word}
+use Rattle.items.specs.Item.{says, say, lit, plain_item}
+use Rattle.plan.specs.Ops.{expand}
+use Rattle.plan.proofs.Laws.{blank}
+use Rattle.plan.proofs.plan_word.Goals as goal
+
+pub add_numbered-requires : goal.add_numbered-requires
+add_numbered-requires c = omega arith
+
+pub shape_of-ops : goal.shape_of-ops
+shape_of-ops c = (returns c blank).same_ops
+
+pub returns : goal.returns
+unfolding expand plain_item says say lit
+returns c = c.add_numbered.ensures s (carried-word s _ (search rules))

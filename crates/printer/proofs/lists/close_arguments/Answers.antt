@@ -1,0 +1,22 @@
+use Rattle.plan.proofs.Laws.{◌▸◌}
+use Rattle.printer.specs.Lists.{close_arguments}
+use Rattle.printer.proofs.lists.close_arguments.Goals as goal
+
+pub plan_ending-requires : goal.plan_ending-requires
+plan_ending-requires c = c.requires.lies
+
+pub close_bracket-requires : goal.close_bracket-requires
+close_bracket-requires c = c.requires.bracket_lt_word_count
+
+pub shape_of-ops : goal.shape_of-ops
+shape_of-ops c = (returns c).same_ops
+
+pub returns : goal.returns
+unfolding close_arguments
+returns c =
+    c.end_body.ensures _
+    ▸ c.plan_signal.ensures _
+    ▸ c.plan_signal-2.ensures _
+    ▸ c.repeat_body.ensures _
+    ▸ c.plan_ending.ensures
+    ▸ c.close_bracket.ensures _

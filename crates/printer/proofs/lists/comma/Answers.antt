@@ -1,0 +1,17 @@
+use Rattle.plan.proofs.Laws.{blank}
+use Rattle.plan.specs.Words.{words}
+use Rattle.printer.proofs.Chosen.{comma-more, comma-last}
+use Rattle.printer.proofs.lists.comma.Goals as goal
+
+pub shape_of-ops-then-more : goal.shape_of-ops-then-more
+shape_of-ops-then-more c = (returns c blank).same_ops
+
+pub returns-then-more : goal.returns-then-more
+unfolding words
+returns-then-more c = comma-more _ _ c.if-more.true (c.plan_word.ensures s)
+
+pub shape_of-ops : goal.shape_of-ops
+shape_of-ops c = (returns_2 c blank).same_ops
+
+pub returns : goal.returns
+returns c = comma-last _ _ c.if-more.false (c.trailing_comma.ensures s)

@@ -1,0 +1,33 @@
+use mathlib.Core.Path.{refl, ap}
+use Rattle.plan.proofs.Laws.{by}
+use Rattle.tree.specs.Answer.{found}
+use Rattle.printer.proofs.Looking.{first-has, none_has, ends-has}
+use Rattle.printer.proofs.Sources.{root_at, source-before, source-behind, source-whole, before-region, after-region}
+use Rattle.printer.proofs.plan_source.Goals as goal
+
+pub first_of-e-requires : goal.first_of-e-requires
+first_of-e-requires c = root_at c.requires
+
+pub first_in-a-requires : goal.first_in-a-requires
+first_in-a-requires c = root_at c.requires
+
+pub trivia_before-before-requires : goal.trivia_before-before-requires
+trivia_before-before-requires c = ends-has (root_at c.requires) c.first_in-a.ensures c.end_at-b.ensures (first-has _ _ c.first_of-e.ensures) (none_has _ refl)
+
+pub trivia_after-after-requires : goal.trivia_after-after-requires
+trivia_after-after-requires c = ends-has (root_at c.requires) c.first_in-a.ensures c.end_at-b.ensures (first-has _ _ c.first_of-e.ensures) (none_has _ refl)
+
+pub returns-in-At : goal.returns-in-At
+returns-in-At c = by (source-before c.requires c.first_in-a.ensures c.end_at-b.ensures c.first_of-e.ensures _ _ c.trivia_before-before.ensures c.trivia_after-after.ensures (ap found c.in-At.is)) (c.stop_at.ensures _ _)
+
+pub returns-in-At-g : goal.returns-in-At-g
+returns-in-At-g c = by (source-behind c.requires c.first_in-a.ensures c.end_at-b.ensures c.first_of-e.ensures _ _ c.trivia_before-before.ensures c.trivia_after-after.ensures (ap found c.in_default.is) (ap found c.in-At-g.is)) (c.stop_at-in-At-g.ensures _ _)
+
+pub plan_whole-requires : goal.plan_whole-requires
+plan_whole-requires c = (root_at c.requires, (first-has _ _ c.first_of-e.ensures, (before-region c.requires c.first_in-a.ensures c.end_at-b.ensures c.first_of-e.ensures _ _ c.trivia_before-before.ensures c.trivia_after-after.ensures, after-region c.requires c.first_in-a.ensures c.end_at-b.ensures c.first_of-e.ensures _ _ c.trivia_before-before.ensures c.trivia_after-after.ensures)))
+
+pub shape_of-ops : goal.shape_of-ops
+shape_of-ops c = (returns_3 c).same_ops
+
+pub returns : goal.returns
+returns c = by (source-whole c.requires c.first_in-a.ensures c.end_at-b.ensures c.first_of-e.ensures _ _ c.trivia_before-before.ensures c.trivia_after-after.ensures (ap found c.in_default.is) (ap found c.in_default-g.is)) c.plan_whole.ensures

@@ -1,0 +1,6 @@
+use mathlib.Core.Path.{◌∙◌}
+use Rattle.tree.proofs.Numbers.{header_in}
+use Rattle.tree.proofs.read.element_in.Goals as goal
+
+pub returns : goal.returns
+returns c = rw c.place_of.ensures at c.header_in.ensures ∙ header_in _ _
