@@ -1,7 +1,7 @@
 -- What the exported function on comments answers.
 use Rattle.std.specs.Prelude.{false, cond, List, [], ◌∷◌, ℕ, eqb}
 use Rattle.std.proofs.lemmas.List.Edits.{sets}
-use Rattle.text.specs.Lent.{Lent}
+use Rattle.text.specs.Lent.{Lent, LentMut}
 use Rattle.items.specs.declared.Printed.{Printed}
 use Rattle.items.specs.declared.Printed.TheVariants.{Done, Full}
 use Rattle.items.specs.Machine.{Outcome, full, reached, printing, seen, no_size}
@@ -12,7 +12,7 @@ unfoldable pub location : ℕ → Location
 location n = cond (eqb n 0) above_item (cond (eqb n 1) itemInline endOfItems)
 
 -- what printing a comment from the start comes to, in the lent buffers
-abbrev pub comment_in : Lent → Lent → ℕ → Lent → ℕ → Outcome
+abbrev pub comment_in : LentMut → LentMut → ℕ → Lent → ℕ → Outcome
 comment_in records texts kind s at = printing (comment kind s.entry.now (location at)) (seen records.entry.now texts.entry.now (Done (no_size false)))
 
 -- every word of the records then

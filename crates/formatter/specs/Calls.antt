@@ -1,7 +1,7 @@
 -- What the entries answer for what they are lent, and what the functions below them answer.
 use Rattle.std.specs.Prelude.{◌≡◌, Bool, true, false, cond, ◌&&◌, List, ℕ, ◌+◌, ◌*◌, ◌<◌, ◌≤◌, ltb, leb, length}
 use Rattle.std.proofs.Math.Option.{Option, none, some}
-use Rattle.text.specs.Lent.{Lent}
+use Rattle.text.specs.Lent.{Lent, LentMut}
 use Rattle.numbers.specs.declared.mode.Mode.{Mode}
 use Rattle.numbers.specs.declared.Element.{Element}
 use Rattle.numbers.specs.declared.refusal.Reason.TheVariants.{RecordsTooShort, TextsTooShort, ListingTooShort}
@@ -31,26 +31,26 @@ use Rattle.formatter.specs.Reply.{reply_to}
 -- ---- the entries
 
 -- what a call in a mode is answered that is lent an image, the records and the texts, and a listing buffer where a listing is asked for
-abbrev pub answer_in : Lent → Mode → Lent → Lent → Option (List ℕ) → Answer
+abbrev pub answer_in : Lent → Mode → LentMut → LentMut → Option (List ℕ) → Answer
 answer_in image m records texts ls = answer m image.entry.now records.entry.now texts.entry.now ls
 
 -- what it leaves in the records and in the texts
-abbrev pub records_in : Lent → Mode → Lent → Lent → Option (List ℕ) → List ℕ
+abbrev pub records_in : Lent → Mode → LentMut → LentMut → Option (List ℕ) → List ℕ
 records_in image m records texts ls = records_after m image.entry.now records.entry.now texts.entry.now ls
 
-abbrev pub texts_in : Lent → Mode → Lent → Lent → Option (List ℕ) → List ℕ
+abbrev pub texts_in : Lent → Mode → LentMut → LentMut → Option (List ℕ) → List ℕ
 texts_in image m records texts ls = texts_after m image.entry.now records.entry.now texts.entry.now ls
 
 -- and in the listing buffer
-abbrev pub listing_in : Lent → Mode → Lent → Lent → Lent → List ℕ
+abbrev pub listing_in : Lent → Mode → LentMut → LentMut → LentMut → List ℕ
 listing_in image m records texts listing = listing_after m image.entry.now records.entry.now texts.entry.now listing.entry.now
 
 -- a listing is asked for
-abbrev pub listed : Lent → Option (List ℕ)
+abbrev pub listed : LentMut → Option (List ℕ)
 listed listing = some listing.entry.now
 
 -- what holds of the buffers that come back, where the answer has counts
-abbrev pub AnsweredIn : Lent → Mode → Lent → Lent → Answer → Type 0
+abbrev pub AnsweredIn : Lent → Mode → LentMut → LentMut → Answer → Type 0
 AnsweredIn image m records texts a = (c : Count) (n : Option ℕ) → a ≡ done c n → Answered m image.entry.now records.exit.now texts.exit.now c
 
 -- ---- both at once
@@ -68,7 +68,7 @@ pub record Served (m : Mode) (image rs ts ls : List ℕ) (listed : Bool) (rs' ts
   pub listing : ls' ≡ cond listed (listing_after m image rs ts ls) ls
 
 -- the same of what is lent and wanted
-abbrev pub ServedIn : Lent → Lent → Lent → Lent → Wanted → ListAnswer → Type 0
+abbrev pub ServedIn : Lent → LentMut → LentMut → LentMut → Wanted → ListAnswer → Type 0
 ServedIn image records texts listing w r =
     Served w.mode image.entry.now records.entry.now texts.entry.now listing.entry.now w.listed records.exit.now texts.exit.now listing.exit.now (reply_to w.listed r)
 
@@ -118,12 +118,12 @@ pub record Attempted (room : Type 0) (m : Mode) (image rs ts ls : List ℕ) (lis
   pub fills : a ≡ Full → (room → ⊥) × ((rs' ≡ rs) × ((ts' ≡ ts) × (ls' ≡ ls)))
 
 -- the same of what is lent, in an array of n operations: there is room where it has more than the image prints at most
-abbrev pub AttemptedIn : ℕ → Lent → Lent → Lent → Lent → Wanted → Attempt → Type 0
+abbrev pub AttemptedIn : ℕ → Lent → LentMut → LentMut → LentMut → Wanted → Attempt → Type 0
 AttemptedIn n image records texts listing w a =
     Attempted (most_records image.entry.now < n) w.mode image.entry.now records.entry.now texts.entry.now listing.entry.now w.listed records.exit.now texts.exit.now listing.exit.now a
 
 -- the same in arrays of a size or larger ones: in the largest there is room
-abbrev pub TriedIn : ℕ → Lent → Lent → Lent → Lent → Wanted → Attempt → Type 0
+abbrev pub TriedIn : ℕ → Lent → LentMut → LentMut → LentMut → Wanted → Attempt → Type 0
 TriedIn size image records texts listing w a =
     Attempted (226305 ≤ size) w.mode image.entry.now records.entry.now texts.entry.now listing.entry.now w.listed records.exit.now texts.exit.now listing.exit.now a
 

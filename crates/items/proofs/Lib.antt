@@ -5,7 +5,6 @@ pub mod Emits
 pub mod Fits
 pub mod Laws
 pub mod Lengths
-mod Lent
 mod Naming
 mod Numbers
 mod Signals

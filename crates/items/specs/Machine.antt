@@ -2,7 +2,7 @@
 use Rattle.std.specs.Prelude.{◌≡◌, Bool, true, cond, ◌&&◌, List, [], ◌∷◌, ℕ, ◌+◌, ◌*◌, ◌^◌, ltb, length}
 use Rattle.std.proofs.lemmas.List.Edits.{sets}
 use Rattle.text.specs.Basic.{all}
-use Rattle.text.specs.Lent.{Lent}
+use Rattle.text.specs.Lent.{LentMut}
 use Rattle.items.specs.declared.Printed.{Printed}
 use Rattle.items.specs.declared.Size.{Size}
 use Rattle.items.specs.declared.Printed.TheVariants.{Done, Full}
@@ -66,7 +66,7 @@ pub record Puts (xs : List Item) (rs ts : List ℕ) (p : Size) (rs' ts' : List �
   pub size : d ≡ sized xs p
 
 -- the same of what is lent
-abbrev pub PutsIn : Lent → Lent → Size → Size → List Item → Type 0
+abbrev pub PutsIn : LentMut → LentMut → Size → Size → List Item → Type 0
 PutsIn records texts p d xs = Puts xs records.entry.now texts.entry.now p records.exit.now texts.exit.now d
 
 -- ---- printing that asks whether numbers fit
@@ -129,5 +129,5 @@ pub record Says (xs : List Item) (o a : Held) : Type 0 where
   pub same_texts : length a.texts ≡ length o.texts
 
 -- the contract of a printer that is lent the records and the texts, is handed p and answers r: it prints xs
-abbrev pub SaysIn : Lent → Lent → Printed → Printed → List Item → Type 0
+abbrev pub SaysIn : LentMut → LentMut → Printed → Printed → List Item → Type 0
 SaysIn records texts p r xs = Says xs (held records.entry.now texts.entry.now p) (held records.exit.now texts.exit.now r)

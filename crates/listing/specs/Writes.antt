@@ -1,7 +1,7 @@
 -- What a function that writes bytes into a lent buffer promises.
 use Rattle.std.specs.Prelude.{◌≡◌, List, ℕ, ◌+◌, ◌<◌, ◌^◌, length}
 use Rattle.items.specs.Machine.{store}
-use Rattle.text.specs.Lent.{Lent}
+use Rattle.text.specs.Lent.{LentMut}
 
 -- A lent buffer, and the place of the next byte.
 pub record Page : Type 0 where
@@ -24,5 +24,5 @@ pub record Room (bs : List ℕ) (n : ℕ) : Type 0 where
 -- ---- room for what is written in turn
 
 -- the contract of a function that is lent a buffer, writes bs from a place on and answers the next place
-abbrev pub WritesIn : Lent → ℕ → ℕ → List ℕ → Type 0
+abbrev pub WritesIn : LentMut → ℕ → ℕ → List ℕ → Type 0
 WritesIn out at next bs = Writes bs (page out.entry.now at) (page out.exit.now next)

@@ -1,6 +1,6 @@
 -- How far planning has come, and the contract of every planner.
 use Rattle.core.specs.Prelude.{◌≡◌, ℕ, suc, ◌-◌, ◌^◌, ◌<◌, ◌≤◌, min, Bool, true, false, ◌⊎◌, List, [], ◌∷◌, ◌++◌, length, ◌==◌, ◌≢◌, slice_index}
-use Rattle.text.specs.Lent.{Lent}
+use Rattle.text.specs.Lent.{Lent, LentMut}
 use Rattle.numbers.specs.declared.mode.Mode.{Mode}
 use Rattle.numbers.specs.Mode.{mode_number, mode_at}
 use Rattle.items.specs.Item.{Item, Out, stop, ok, Context, Print}
@@ -130,11 +130,11 @@ pub record Plans (s : Source) (q : Print) (o a : Held) : Type 0 where
 -- ---- of what is lent
 
 -- what a planner that is lent the operations and the cells is handed
-abbrev pub handed : Lent → Lent → Held
+abbrev pub handed : LentMut → LentMut → Held
 handed ops cells = held ops.entry.now cells.entry.now
 
 -- what it leaves
-abbrev pub left : Lent → Lent → Held
+abbrev pub left : LentMut → LentMut → Held
 left ops cells = held ops.exit.now cells.exit.now
 
 -- the tree with a lent image and a lent index
@@ -142,13 +142,13 @@ abbrev pub source_in : Lent → Lent → Source
 source_in image index = source_at image.entry.now index.entry.now
 
 -- the contract of a planner that is lent the tree: it plans q
-abbrev pub PlansIn : Lent → Lent → Lent → Lent → Print → Type 0
+abbrev pub PlansIn : LentMut → LentMut → Lent → Lent → Print → Type 0
 PlansIn ops cells image index q = Plans (source_in image index) q (handed ops cells) (left ops cells)
 
 -- the contract of a planner that is lent no tree: it plans q for every one
-abbrev pub PlansAny : Lent → Lent → Print → Type 0
+abbrev pub PlansAny : LentMut → LentMut → Print → Type 0
 PlansAny ops cells q = (s : Source) → Plans s q (handed ops cells) (left ops cells)
 
 -- the same of the one function that adds
-abbrev pub AddsAny : Lent → Lent → (Source → Print) → Type 0
+abbrev pub AddsAny : LentMut → LentMut → (Source → Print) → Type 0
 AddsAny ops cells q = (s : Source) → Adds s (q s) (handed ops cells) (left ops cells)

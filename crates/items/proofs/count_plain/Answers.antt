@@ -12,7 +12,9 @@ overflow_cast-e-2 c =
     let h = c.requires in omega (arith, (plain_fits _ _ h.le_kind h.kind_bound c.args.p c.plain_entry-e.ensures refl h.p_value).second)
 
 pub overflow_cast-line : goal.overflow_cast-line
-overflow_cast-line c = omega (arith, (fits c tt).lines)
+overflow_cast-line c =
+    let h = c.requires in
+    omega (arith, (plain_fits _ _ h.le_kind h.kind_bound c.args.p c.plain_entry-e.ensures c.line_if-line.ensures h.p_value).after.lines)
 
 pub advanced-requires : goal.advanced-requires
 advanced-requires c =

@@ -1,14 +1,8 @@
 use mathlib.Core.Path.{◌≡◌}
 use Prim.Native.Nat.{◌+◌}
 use native.Mathlib.Omega.{arith}
-use lib.ListN.{length}
-use Rattle.items.specs.Lines.{decimal}
 use Rattle.items.proofs.Decimals.{four_shorter, decimal-short}
 use Rattle.items.proofs.lines.decimal_length.Goals as goal
-
--- the digits that were counted and those of the rest are those of n
-abbrev invariant-loop : tie.invariant-loop
-invariant-loop n digits₀ rest₀ digits rest = digits + length (decimal rest) ≡ length (decimal n)
 
 pub loop-rest-init : goal.loop-rest-init
 loop-rest-init c = omega arith

@@ -3,7 +3,12 @@ use Rattle.text.proofs.Words.{start_le, end-in, word-part}
 use Rattle.items.specs.Lines.{kind_names}
 use Rattle.items.specs.Names.{names_of, name_at}
 use Rattle.items.proofs.Naming.{part_room, part-stored}
+use borrow.Author.Rules.{rules}
 use Rattle.items.proofs.names.put_kind.Goals as goal
+
+pub overflow_add-w : goal.overflow_add-w
+unfolding kind_names names_of name_at flatten
+overflow_add-w c = search rules
 
 pub slice_bounds-put_bytes-count : goal.slice_bounds-put_bytes-count
 unfolding kind_names names_of name_at flatten

@@ -3,11 +3,11 @@ use Rattle.items.proofs.names.put_name.Goals as goal
 
 pub put_kind-requires : goal.put_kind-requires
 put_kind-requires c =
-    let h = c.in-Kinds.is in (known_as h _ c.requires.w_in_bounds, room_as h _ _ c.requires.w_bound)
+    let h = c.in-Kinds.is in record { w_in_bounds = known_as h _ c.requires.w_in_bounds; w_bound = room_as h _ _ c.requires.w_bound }
 
 pub put_other-requires : goal.put_other-requires
 put_other-requires c =
-    let h = c.in-Others.is in (known_as h _ c.requires.w_in_bounds, room_as h _ _ c.requires.w_bound)
+    let h = c.in-Others.is in record { w_in_bounds = known_as h _ c.requires.w_in_bounds; w_bound = room_as h _ _ c.requires.w_bound }
 
 pub returns-in-Kinds : goal.returns-in-Kinds
 returns-in-Kinds c = stored-as c.in-Kinds.is _ _ _ _ c.put_kind.ensures

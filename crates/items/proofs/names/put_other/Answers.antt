@@ -2,7 +2,12 @@ use mathlib.Core.List.{flatten}
 use Rattle.text.proofs.Words.{start_le, end-in, word-part}
 use Rattle.items.specs.Names.{other_names, names_of, name_at}
 use Rattle.items.proofs.Naming.{part_room, part-stored}
+use borrow.Author.Rules.{rules}
 use Rattle.items.proofs.names.put_other.Goals as goal
+
+pub overflow_add-w : goal.overflow_add-w
+unfolding other_names names_of name_at flatten
+overflow_add-w c = search rules
 
 pub slice_bounds-put_bytes-count : goal.slice_bounds-put_bytes-count
 unfolding other_names names_of name_at flatten

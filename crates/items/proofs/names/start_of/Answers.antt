@@ -5,9 +5,13 @@ use Rattle.items.specs.Names.{other_names}
 use Rattle.items.proofs.Naming.{kinds-in, kinds-start, others-in, others-start}
 use Rattle.items.proofs.names.start_of.Goals as goal
 
--- dropped? array-read-from-u8: λ c. kinds-in c.enum_told.given.1 _ c.before.before.requires
+pub bounds-at : goal.bounds-at
+unfolding kind_names flatten
+bounds-at c = kinds-in c.in-Kinds.is _ c.requires
 
--- dropped? array-read-from-u8-2: λ c. others-in c.enum-told2.given.1 _ c.before.before.requires
+pub bounds-at-in-Others : goal.bounds-at-in-Others
+unfolding other_names flatten
+bounds-at-in-Others c = others-in c.in-Others.is _ c.requires
 
 pub returns-in-Kinds : goal.returns-in-Kinds
 unfolding kind_names flatten
