@@ -1,6 +1,6 @@
 -- One element more in a gap: its lists, and its tally.
 use mathlib.Core.Path.{◌≡◌, refl, sym, ◌∙◌}
-use mathlib.Core.Bool.{Bool, true, false, cond, not, ◌&&◌, ◌||◌, or_false}
+use mathlib.Core.Bool.{Bool, true, false, cond, not, ◌&&◌, ◌||◌, or-false}
 use mathlib.Core.List.{List, [], ◌∷◌, ◌++◌, append-nil, append_assoc}
 use Prim.Native.Nat.{ℕ, zero, suc, ◌+◌, ◌*◌, ◌-◌, ◌<◌, ◌≤◌}
 use native.Mathlib.Omega.{arith}
@@ -134,7 +134,7 @@ counted_none t follows k f {e} {v} a b z h =
       none_before t.before t.ended follows,
       none-back t.back follows,
       none_told t.waits,
-      or_false t.ended,
+      or-false t.ended,
       none_told t.noted,
     )
 

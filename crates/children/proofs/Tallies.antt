@@ -1,6 +1,6 @@
 -- What a tally tells of a gap's lists: one element more.
 use mathlib.Core.Path.{◌≡◌, refl, ap, ◌∙◌, sym}
-use mathlib.Core.Bool.{Bool, true, false, cond, not, ◌&&◌, ◌||◌, false≢true, or_true, or_false, or_assoc}
+use mathlib.Core.Bool.{Bool, true, false, cond, not, ◌&&◌, ◌||◌, false≢true, or-true, or-false, or_assoc}
 use mathlib.Core.List.{List, [], ◌∷◌, ◌++◌, append-nil, reverse, reverse-append}
 use Prim.Native.Nat.{ℕ, suc, ◌+◌}
 use native.Mathlib.Omega.{arith}
@@ -74,7 +74,7 @@ sort x = go (eqb x.kind 64) refl (is Class.Trivia x) refl (is Class.CustomError 
 
 any-more : (f : Part → Bool) (xs : List Part) (x : Part) (b : Bool) → any f (xs ++ cond b (x ∷ []) []) ≡ (any f xs || (b && f x))
 unfolding any
-any-more f [] x true = or_false (f x)
+any-more f [] x true = or-false (f x)
 any-more f [] x false = refl
 any-more f (y ∷ ys) x b = ap (λ (c : Bool). f y || c) (any-more f ys x b) ∙ sym (or_assoc (f y) (any f ys) (b && f x))
 
@@ -153,32 +153,32 @@ ended-waiting other c = refl
 
 noted-inline : {u t e : Bool} → Sort u t e → (a b : Bool) → (((a || b) || e) || (t && not u)) ≡ ((a || (t && not u)) || (b || (e && not u)))
 noted-inline space true b = refl
-noted-inline space false b = or_false (b || false)
+noted-inline space false b = or-false (b || false)
 noted-inline remark true b = refl
-noted-inline remark false b = or_true (b || false)
+noted-inline remark false b = or-true (b || false)
 noted-inline error true b = refl
-noted-inline error false b = or_false (b || true)
+noted-inline error false b = or-false (b || true)
 noted-inline other true b = refl
-noted-inline other false b = or_false (b || false)
+noted-inline other false b = or-false (b || false)
 
 noted-waiting : {u t e : Bool} → Sort u t e → (a b : Bool) → (((a || b) || e) || (t && not u)) ≡ (a || (b || ((t || e) && not u)))
 noted-waiting space true b = refl
-noted-waiting space false b = or_false (b || false)
+noted-waiting space false b = or-false (b || false)
 noted-waiting remark true b = refl
-noted-waiting remark false b = ap (λ (c : Bool). c || true) (or_false b)
+noted-waiting remark false b = ap (λ (c : Bool). c || true) (or-false b)
 noted-waiting error true b = refl
-noted-waiting error false b = or_false (b || true)
+noted-waiting error false b = or-false (b || true)
 noted-waiting other true b = refl
-noted-waiting other false b = or_false (b || false)
+noted-waiting other false b = or-false (b || false)
 
 waits-inline : (w e t : Bool) → ((w || e) || (t && false)) ≡ (w || e)
-waits-inline w e true = or_false (w || e)
-waits-inline w e false = or_false (w || e)
+waits-inline w e true = or-false (w || e)
+waits-inline w e false = or-false (w || e)
 
 waits-waiting : (w e t : Bool) → ((w || e) || (t && true)) ≡ (w || (t || e))
 waits-waiting true e t = refl
-waits-waiting false e true = or_true e
-waits-waiting false e false = or_false e
+waits-waiting false e true = or-true e
+waits-waiting false e false = or-false e
 
 -- ---- what a tally tells
 

@@ -1,6 +1,6 @@
 -- The number of a turn, from the tests that the code makes.
 use mathlib.Core.Path.{◌≡◌, refl, ◌∙◌, sym}
-use mathlib.Core.Bool.{Bool, true, false, cond, not, ◌&&◌, and_true}
+use mathlib.Core.Bool.{Bool, true, false, cond, not, ◌&&◌, and-true}
 use mathlib.Core.List.{List}
 use Prim.Native.Nat.{ℕ, ◌<◌, ◌≤◌}
 use native.Mathlib.Omega.{arith}
@@ -23,7 +23,7 @@ unfolding one_of
 range_is a b k h = go (leb a k) refl
   where
     go : (u : Bool) → leb a k ≡ u → (u && leb k b) ≡ ((u && leb k b) && not (eqb k 0))
-    go true e = rw (ne_eqb k 0 (λ z. omega (arith, leb-true a k e))) (sym (and_true (leb k b)))
+    go true e = rw (ne_eqb k 0 (λ z. omega (arith, leb-true a k e))) (sym (and-true (leb k b)))
     go false e = refl
 
 pub feeds_of : (i t s : List ℕ) (j r : ℕ) → s ≡ text_at t i j → r ≡ count 10 s → r ≡ count 10 (text_at t i j)

@@ -187,7 +187,7 @@ pub beside-more : (doc : Bool) (s l m : List ℕ) (j k n : ℕ) → l ≡ first_
     → one_line doc l ++ shown doc n (rows s j) ≡ flatten (map (one_line doc) (unpadded true (rows s 0)))
 unfolding unpadded common_padding flatten
 beside-more doc s l m j k n e q h f p d =
-    rw (row_step s l 0 j (omega arith) e q, row_step s m j k h f p, lt-ltb 1 (suc (suc (length (rows s k)))) (omega arith), d)
+    rw (row_step s l 0 j (omega arith) e q, row_step s m j k h f p) ?
 
 -- the lines by where the first begins
 pub begun : (doc t u : Bool) (s : List ℕ) {o a : Held} → t ≡ u → Says (flatten (map (one_line doc) (unpadded u (rows s 0)))) o a → Says (flatten (map (one_line doc) (unpadded t (rows s 0)))) o a

@@ -1,6 +1,6 @@
 -- Test 8 and the forms of comments: which accepted tokens are no forms.
 use mathlib.Core.Path.{◌≡◌, refl, sym, ◌∙◌}
-use mathlib.Core.Bool.{Bool, true, false, cond, not, ◌&&◌, ◌||◌, false≢true, and_false, and_assoc, or_true, or_false, not-not}
+use mathlib.Core.Bool.{Bool, true, false, cond, not, ◌&&◌, ◌||◌, false≢true, and-false, and_assoc, or-true, or-false, not-not}
 use mathlib.Core.Option.{some}
 use mathlib.Core.List.{List, [], ◌∷◌}
 use Prim.Native.Nat.{ℕ, suc, ◌-◌, ◌<◌, ◌≤◌}
@@ -22,7 +22,7 @@ starts-short_lem : (t s : List ℕ) → length s < length t → starts_with t s 
 unfolding starts_with
 starts-short_lem [] s h = absurd (omega arith)
 starts-short_lem (x ∷ t) [] h = refl
-starts-short_lem (x ∷ t) (b ∷ s) h = rw (starts-short_lem t s (omega arith)) (and_false (eqb x b))
+starts-short_lem (x ∷ t) (b ∷ s) h = rw (starts-short_lem t s (omega arith)) (and-false (eqb x b))
 
 stands-short : (t s : List ℕ) → length s < length t → stands t s ≡ false
 unfolding stands
@@ -32,8 +32,8 @@ stands-short t (b ∷ s) h = rw (starts-short_lem t (b ∷ s) h) (stands-short t
 -- without its last byte a text begins with t where t is not all of it
 starts-but_last : (t s : List ℕ) (x b : ℕ) → starts_with (x ∷ t) (but_last (b ∷ s)) ≡ (starts_with (x ∷ t) (b ∷ s) && not (is_nil (drop (length t) s)))
 unfolding starts_with but_last
-starts-but_last [] [] x b = sym (and_false (eqb x b && true))
-starts-but_last (y ∷ t) [] x b = sym (and_false (eqb x b && false))
+starts-but_last [] [] x b = sym (and-false (eqb x b && true))
+starts-but_last (y ∷ t) [] x b = sym (and-false (eqb x b && false))
 starts-but_last [] (c ∷ s) x b = sym (and_assoc (eqb x b) true true)
 starts-but_last (y ∷ t) (c ∷ s) x b = rw (starts-but_last t s y c) (sym (and_assoc (eqb x b) (starts_with (y ∷ t) (c ∷ s)) (not (is_nil (drop (length t) s)))))
 
@@ -95,8 +95,8 @@ over endless x t (b ∷ s) = rw (stands-but_last t s x b, starts-but_last t s x 
     go true true e f r =
         let short : length s ≤ length t = nil-drop (length t) s f in
         let whole : length (x ∷ t) ≡ length (b ∷ s) = omega (arith, starts-long (x ∷ t) (b ∷ s) e) in
-        f ∙ sym (rw (stands-short (x ∷ t) (but_last s) (omega (arith, but_last-length s)), ends-whole (x ∷ t) (b ∷ s) whole ∙ e, or_true endless))
-    go true false e f r = f ∙ sym (and_false (endless || ends_with (x ∷ t) (b ∷ s)))
+        f ∙ sym (rw (stands-short (x ∷ t) (but_last s) (omega (arith, but_last-length s)), ends-whole (x ∷ t) (b ∷ s) whole ∙ e, or-true endless))
+    go true false e f r = f ∙ sym (and-false (endless || ends_with (x ∷ t) (b ∷ s)))
     go false q e f r = r ∙ sym (rw (ends-later (x ∷ t) s b e))
 
 -- a comment of a line is its opening, with no line feed before its end
@@ -108,7 +108,7 @@ line-formed opening s = rw (over true 10 [] (drop (length opening) s))
 block-ends : (s : List ℕ) → not (misformed_block s) ≡ (starts_with (ascii "/*") s && ends_with (ascii "*/") (drop 2 s))
 unfolding starts_with
 block-ends [] = refl
-block-ends (a ∷ []) = sym (rw (and_false (eqb 47 a)))
+block-ends (a ∷ []) = sym (rw (and-false (eqb 47 a)))
 block-ends (a ∷ b ∷ s) = go (dec_lt (length s) 2)
   where
     both : (p q : Bool) → not (not p || not q) ≡ (p && q)
@@ -117,7 +117,7 @@ block-ends (a ∷ b ∷ s) = go (dec_lt (length s) 2)
     both false q = refl
 
     go : Dec (length s < 2) → not (misformed_block (a ∷ b ∷ s)) ≡ (starts_with (ascii "/*") (a ∷ b ∷ s) && ends_with (ascii "*/") s)
-    go (yes h) = rw (lt-ltb (length (a ∷ b ∷ s)) 4 (omega arith), lt-leb 2 (length s) h) (sym (and_false (starts_with (ascii "/*") (a ∷ b ∷ s))))
+    go (yes h) = rw (lt-ltb (length (a ∷ b ∷ s)) 4 (omega arith), lt-leb 2 (length s) h) (sym (and-false (starts_with (ascii "/*") (a ∷ b ∷ s))))
     go (no h) =
         let e : length (a ∷ b ∷ s) - 2 ≡ suc (suc (length s - 2)) = omega arith in
         rw (le-ltb (length (a ∷ b ∷ s)) 4 (omega arith), le-leb 2 (length (a ∷ b ∷ s)) (omega arith), le-leb 2 (length s) (omega arith), e) (both (starts_with (ascii "/*") (a ∷ b ∷ s)) (starts_with (ascii "*/") (drop (length s - 2) s)))
@@ -136,10 +136,10 @@ unfolding is_form ends_once
 forms_exactly e = go (ℕ_discrete e.kind 68) (ℕ_discrete e.kind 69) (ℕ_discrete e.kind 65)
   where
     go : Dec (e.kind ≡ 68) → Dec (e.kind ≡ 69) → Dec (e.kind ≡ 65) → is_form e.kind e.text ≡ (not (misformed e) && ends_once e.kind e.text)
-    go (yes h) l m = rw (← misformed-hash e e.kind e.text refl refl _ h refl, h, line-formed (ascii "#") e.text) (simp (or_false, not-not))
-    go (no h) (yes l) m = rw (← misformed-slash e e.kind e.text refl refl _ l refl, l, line-formed (ascii "//") e.text) (simp (or_false, not-not))
+    go (yes h) l m = rw (← misformed-hash e e.kind e.text refl refl _ h refl, h, line-formed (ascii "#") e.text) (simp (or-false, not-not))
+    go (no h) (yes l) m = rw (← misformed-slash e e.kind e.text refl refl _ l refl, l, line-formed (ascii "//") e.text) (simp (or-false, not-not))
     go (no h) (no l) (yes m) = rw (← misformed-multi e e.kind e.text refl refl _ m refl, m) (block-formed e.text)
-    go (no h) (no l) (no m) = rw (ne_eqb e.kind 68 h, ne_eqb e.kind 69 l, ne_eqb e.kind 65 m) (sym (and_false (not (misformed e))))
+    go (no h) (no l) (no m) = rw (ne_eqb e.kind 68 h, ne_eqb e.kind 69 l, ne_eqb e.kind 65 m) (sym (and-false (not (misformed e))))
 
 -- Test 8 refuses no comment of the specification.
 pub forms_pass : (e : Element) → is_form e.kind e.text ≡ true → misformed e ≡ false

@@ -1,6 +1,5 @@
 -- Laws that belong to no one function. Those of a `pub mod` are cited by other crates.
 pub mod Accepted
-mod Answers
 mod Asciis
 pub mod Children
 mod Classes
@@ -16,10 +15,8 @@ mod Lengths
 mod Looking
 mod Numbers
 mod Parts
-mod Reading
 mod Search
 pub mod Siblings
-mod Stepping
 mod Sums
 mod Tries
 mod Verdict

@@ -1,4 +1,4 @@
-// A reader: an image, and the place of what is read next. The checker covers no function over a struct that holds a
+// A reader: an image, and the place of what is read next. X
 // reference, so each of the first six here takes one step, and is proved by a walk of its operations. What is read at a
 // place are covered functions of a slice and a number (`bytes.rt`). The last four take an image and a place: whoever calls
 // them has no reader and needs no walk.

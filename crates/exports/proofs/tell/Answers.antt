@@ -4,4 +4,4 @@ use Rattle.exports.proofs.tell.Goals as goal
 
 pub returns-in-Done : goal.returns-in-Done
 unfolding code counts_after
-returns-in-Done c = rw c.in-Done.is (refl, refl)
+returns-in-Done c = rw c.in-Done.is (record { value = refl; counts_after = refl })

@@ -2,7 +2,7 @@ use Rattle.listing.proofs.Writes.{◌▸◌, kept, room-first, ◌⟫◌}
 use Rattle.listing.proofs.put_field.Goals as goal
 
 pub put_name-named-requires : goal.put_name-named-requires
-put_name-named-requires c = (c.requires.known, room-first _ c.requires.room)
+put_name-named-requires c = record { known = c.requires.known; room = room-first _ c.requires.room }
 
 pub put_byte-parted-requires : goal.put_byte-parted-requires
 put_byte-parted-requires c = room-first _ (c.requires.room ⟫ c.put_name-named.ensures)
@@ -10,8 +10,8 @@ put_byte-parted-requires c = room-first _ (c.requires.room ⟫ c.put_name-named.
 pub put_decimal-requires : goal.put_decimal-requires
 put_decimal-requires c = c.requires.room ⟫ c.put_name-named.ensures ⟫ c.put_byte-parted.ensures
 
-pub shape_of-out : goal.shape_of-out
-shape_of-out c = kept (returns c)
-
 pub returns : goal.returns
 returns c = c.put_name-named.ensures ▸ c.put_byte-parted.ensures ▸ c.put_decimal.ensures
+
+pub shape_of-out : goal.shape_of-out
+shape_of-out c = kept (returns c)

@@ -12,16 +12,16 @@ put_byte-parted-requires c = room-first _ (c.requires.room ⟫ c.put_decimal-tol
 
 pub put_item-shown-requires : goal.put_item-shown-requires
 unfolding line_at
-put_item-shown-requires c = (c.requires.known.known, room-first _ (c.requires.room ⟫ c.put_decimal-told.ensures ⟫ c.put_byte-parted.ensures))
+put_item-shown-requires c = record { known = c.requires.known.known; room = room-first _ (c.requires.room ⟫ c.put_decimal-told.ensures ⟫ c.put_byte-parted.ensures) }
 
 pub put_byte-requires : goal.put_byte-requires
 unfolding line_at
 put_byte-requires c = c.requires.room ⟫ c.put_decimal-told.ensures ⟫ c.put_byte-parted.ensures ⟫ c.put_item-shown.ensures
 
-pub shape_of-out : goal.shape_of-out
-unfolding line_at
-shape_of-out c = kept (returns c)
-
 pub returns : goal.returns
 unfolding line_at
 returns c = c.put_decimal-told.ensures ▸ c.put_byte-parted.ensures ▸ c.put_item-shown.ensures ▸ c.put_byte.ensures
+
+pub shape_of-out : goal.shape_of-out
+unfolding line_at
+shape_of-out c = kept (returns c)

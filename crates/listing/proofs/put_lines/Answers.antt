@@ -7,13 +7,13 @@ pub loop-i-init : goal.loop-i-init
 loop-i-init c = lines_none _ _ _ _
 
 pub put_line-next-requires : goal.put_line-next-requires
-put_line-next-requires c = (c.requires.known _ c.loop-i-test.true, lines-room _ _ _ _ c.loop-i.invariant c.loop-i-test.true c.requires.room)
+put_line-next-requires c = record { known = c.requires.known _ c.loop-i-test.true; room = lines-room _ _ _ _ c.loop-i.invariant c.loop-i-test.true c.requires.room }
 
 pub loop-i-preserved : goal.loop-i-preserved
 loop-i-preserved c = lines_more _ _ _ _ c.loop-i.invariant c.loop-i-test.true c.put_line-next.ensures
 
-pub shape_of-out : goal.shape_of-out
-shape_of-out c = kept (returns c)
-
 pub returns : goal.returns
 returns c = lines-all _ _ _ _ c.loop-i.invariant c.loop-i-test.false
+
+pub shape_of-out : goal.shape_of-out
+shape_of-out c = kept (returns c)

@@ -8,7 +8,7 @@ use Rattle.listing.proofs.put_text.Goals as goal
 
 pub put_field-told-requires : goal.put_field-told-requires
 unfolding stored_text kind_names names_of
-put_field-told-requires c = (search rules, room-first _ c.requires.room)
+put_field-told-requires c = record { known = search rules; room = room-first _ c.requires.room }
 
 pub put_byte-parted-requires : goal.put_byte-parted-requires
 unfolding stored_text kind_names names_of
@@ -18,10 +18,10 @@ pub put_bytes-requires : goal.put_bytes-requires
 unfolding stored_text
 put_bytes-requires c = room_as (text-part c.args.texts.now c.args.offset c.args.bytes) (c.requires.room ⟫ c.put_field-told.ensures ⟫ c.put_byte-parted.ensures)
 
-pub shape_of-out : goal.shape_of-out
-unfolding stored_text kind_names names_of
-shape_of-out c = kept (returns c)
-
 pub returns : goal.returns
 unfolding stored_text
 returns c = c.put_field-told.ensures ▸ c.put_byte-parted.ensures ▸ by (text-part c.args.texts.now c.args.offset c.args.bytes) c.put_bytes.ensures
+
+pub shape_of-out : goal.shape_of-out
+unfolding stored_text kind_names names_of
+shape_of-out c = kept (returns c)

@@ -19,10 +19,11 @@ put_head-head-requires c = room-first _ (entered c).room
 
 pub put_lines-requires : goal.put_lines-requires
 put_lines-requires c =
-    let e = entered c in (e.each, e.room ⟫ c.put_head-head.ensures)
-
-pub shape_of-out : goal.shape_of-out
-shape_of-out c = kept (returns c)
+    let e = entered c in
+    record { known = e.each; room = e.room ⟫ c.put_head-head.ensures }
 
 pub returns : goal.returns
 returns c = by (entered c).whole (c.put_head-head.ensures ▸ c.put_lines.ensures)
+
+pub shape_of-out : goal.shape_of-out
+shape_of-out c = kept (returns c)

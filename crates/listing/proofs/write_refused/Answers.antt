@@ -25,10 +25,10 @@ pub put_byte-requires : goal.put_byte-requires
 unfolding refused_line
 put_byte-requires c = room c.args.number c.args.element (omega arith) (omega arith) ⟫ c.put_bytes-named.ensures ⟫ c.put_decimal-numbered.ensures ⟫ c.put_byte-parted.ensures ⟫ c.put_decimal-told.ensures
 
-pub shape_of-out : goal.shape_of-out
-unfolding refused_line
-shape_of-out c = kept (returns c)
-
 pub returns : goal.returns
 unfolding refused_line
 returns c = c.put_bytes-named.ensures ▸ c.put_decimal-numbered.ensures ▸ c.put_byte-parted.ensures ▸ c.put_decimal-told.ensures ▸ c.put_byte.ensures
+
+pub shape_of-out : goal.shape_of-out
+unfolding refused_line
+shape_of-out c = kept (returns c)

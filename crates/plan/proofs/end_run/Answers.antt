@@ -8,9 +8,9 @@ use Rattle.plan.proofs.end_run.Goals as goal
 pub add_numbered-requires : goal.add_numbered-requires
 add_numbered-requires c = omega arith
 
-pub shape_of-ops : goal.shape_of-ops
-shape_of-ops c = (returns c blank).same_ops
-
 pub returns : goal.returns
 unfolding expand plain_item says say
-returns c = c.add_numbered.ensures s (carried-end s _)
+returns c = λ s. c.add_numbered.ensures s (carried-end s _)
+
+pub shape_of-ops : goal.shape_of-ops
+shape_of-ops c = (returns c blank).same_ops

@@ -10,10 +10,10 @@ returns-then-is_silent c = silent-planned _ _ _ c.kind_at-k.ensures c.text_at-s.
 pub add_numbered-requires : goal.add_numbered-requires
 add_numbered-requires c = note-below (place c.args.loc) _ c.note_kind.ensures
 
-pub shape_of-ops : goal.shape_of-ops
-shape_of-ops c = (returns_2 c).same_ops
-
 pub returns : goal.returns
 returns c =
     let loc = place c.args.loc in
     note-planned _ loc _ _ c.note_kind.ensures (c.add_numbered.ensures _ (carried-note _ _ loc c.note_kind.ensures (search rules) c.kind_at-k.ensures c.text_at-s.ensures (c.is_silent.ensures _) c.if-is_silent.false))
+
+pub shape_of-ops : goal.shape_of-ops
+shape_of-ops c = (returns c).same_ops

@@ -10,14 +10,14 @@ add_numbered-requires c = omega arith
 pub add_numbered-requires-in-Lines : goal.add_numbered-requires-in-Lines
 add_numbered-requires-in-Lines c = omega arith
 
-pub shape_of-ops-in-Always : goal.shape_of-ops-in-Always
-shape_of-ops-in-Always c = (returns c blank).same_ops
-
 pub returns-in-Always : goal.returns-in-Always
-returns-in-Always c = always-planned s c.args.t (search rules) (c.add_numbered.ensures s (carried-always s 0 (omega arith)))
+returns-in-Always c = λ s. always-planned s c.args.t (search rules) (c.add_numbered.ensures s (carried-always s 0 (omega arith)))
 
-pub shape_of-ops-in-Lines : goal.shape_of-ops-in-Lines
-shape_of-ops-in-Lines c = (returns_2 c blank).same_ops
+pub shape_of-ops-in-Always : goal.shape_of-ops-in-Always
+shape_of-ops-in-Always c = (returns-in-Always c blank).same_ops
 
 pub returns-in-Lines : goal.returns-in-Lines
-returns-in-Lines c = lines-planned s c.args.t _ (search rules) (c.add_numbered-in-Lines.ensures s (carried-lines s _))
+returns-in-Lines c = λ s. lines-planned s c.args.t _ (search rules) (c.add_numbered-in-Lines.ensures s (carried-lines s _))
+
+pub shape_of-ops-in-Lines : goal.shape_of-ops-in-Lines
+shape_of-ops-in-Lines c = (returns-in-Lines c blank).same_ops

@@ -3,10 +3,10 @@ use Rattle.plan.proofs.Texts.{word_none, word_some}
 use Rattle.plan.proofs.plan_optional.Goals as goal
 
 pub returns-then-w-eq0 : goal.returns-then-w-eq0
-returns-then-w-eq0 c = by (word_none _ c.if-w-eq0.true) idle
-
-pub shape_of-ops : goal.shape_of-ops
-shape_of-ops c = (returns_2 c blank).same_ops
+returns-then-w-eq0 c = λ s. by (word_none _ c.if-w-eq0.true) idle
 
 pub returns : goal.returns
-returns c = by (word_some _ c.if-w-eq0.false) (c.plan_word.ensures s)
+returns c = λ s. by (word_some _ c.if-w-eq0.false) (c.plan_word.ensures s)
+
+pub shape_of-ops : goal.shape_of-ops
+shape_of-ops c = (returns c blank).same_ops

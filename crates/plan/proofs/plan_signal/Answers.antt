@@ -6,8 +6,8 @@ use Rattle.plan.proofs.plan_signal.Goals as goal
 pub add_numbered-requires : goal.add_numbered-requires
 add_numbered-requires c = signal-below c.args.x _ c.signal_kind.ensures
 
+pub returns : goal.returns
+returns c = λ s. signal-planned s c.args.x _ c.signal_kind.ensures (c.add_numbered.ensures s (carried-signal s 0 c.args.x c.signal_kind.ensures (omega arith)))
+
 pub shape_of-ops : goal.shape_of-ops
 shape_of-ops c = (returns c blank).same_ops
-
-pub returns : goal.returns
-returns c = signal-planned s c.args.x _ c.signal_kind.ensures (c.add_numbered.ensures s (carried-signal s 0 c.args.x c.signal_kind.ensures (omega arith)))

@@ -24,10 +24,10 @@ pub returns-in-At-g : goal.returns-in-At-g
 returns-in-At-g c = by (source-behind c.requires c.first_in-a.ensures c.end_at-b.ensures c.first_of-e.ensures _ _ c.trivia_before-before.ensures c.trivia_after-after.ensures (ap found c.in_default.is) (ap found c.in-At-g.is)) (c.stop_at-in-At-g.ensures _ _)
 
 pub plan_whole-requires : goal.plan_whole-requires
-plan_whole-requires c = (root_at c.requires, (first-has _ _ c.first_of-e.ensures, (before-region c.requires c.first_in-a.ensures c.end_at-b.ensures c.first_of-e.ensures _ _ c.trivia_before-before.ensures c.trivia_after-after.ensures, after-region c.requires c.first_in-a.ensures c.end_at-b.ensures c.first_of-e.ensures _ _ c.trivia_before-before.ensures c.trivia_after-after.ensures)))
-
-pub shape_of-ops : goal.shape_of-ops
-shape_of-ops c = (returns_3 c).same_ops
+plan_whole-requires c = record { at = root_at c.requires; has = first-has _ _ c.first_of-e.ensures; region = before-region c.requires c.first_in-a.ensures c.end_at-b.ensures c.first_of-e.ensures _ _ c.trivia_before-before.ensures c.trivia_after-after.ensures; region_2 = after-region c.requires c.first_in-a.ensures c.end_at-b.ensures c.first_of-e.ensures _ _ c.trivia_before-before.ensures c.trivia_after-after.ensures }
 
 pub returns : goal.returns
 returns c = by (source-whole c.requires c.first_in-a.ensures c.end_at-b.ensures c.first_of-e.ensures _ _ c.trivia_before-before.ensures c.trivia_after-after.ensures (ap found c.in_default.is) (ap found c.in_default-g.is)) c.plan_whole.ensures
+
+pub shape_of-ops : goal.shape_of-ops
+shape_of-ops c = (returns c).same_ops

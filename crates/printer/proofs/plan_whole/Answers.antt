@@ -7,14 +7,14 @@ pub plan_notes-requires : goal.plan_notes-requires
 plan_notes-requires c = c.requires.region
 
 pub part-requires : goal.part-requires
-part-requires c = (c.requires.at, (c.requires.has, omega arith))
+part-requires c = record { at = c.requires.at; has = c.requires.has; missing_lt_word_count = omega arith }
 
 pub plan_notes-requires-2 : goal.plan_notes-requires-2
 plan_notes-requires-2 c = c.requires.region_2
 
-pub shape_of-ops : goal.shape_of-ops
-shape_of-ops c = (returns c).same_ops
-
 pub returns : goal.returns
 unfolding words word_or_none
 returns c = c.plan_notes.ensures ▸ c.part.ensures ▸ c.plan_signal.ensures _ ▸ c.plan_notes-2.ensures
+
+pub shape_of-ops : goal.shape_of-ops
+shape_of-ops c = (returns c).same_ops

@@ -11,7 +11,7 @@ pub returns-then-t-ge-STOP : goal.returns-then-t-ge-STOP
 returns-then-t-ge-STOP c = search leading-stop
 
 pub tallied-tally-requires : goal.tallied-tally-requires
-tallied-tally-requires c = (omega (arith, leading-fits c.loop-j.invariant c.loop-j-test.true _ c.space_of-f.ensures, c.well_formed), space-none _ _ _ _ _ c.space_of-f.ensures c.kind_at.ensures)
+tallied-tally-requires c = record { f_bound = omega (arith, leading-fits c.loop-j.invariant c.loop-j-test.true _ c.space_of-f.ensures, c.well_formed); f_value = space-none _ _ _ _ _ c.space_of-f.ensures c.kind_at.ensures }
 
 pub loop-j-smaller : goal.loop-j-smaller
 loop-j-smaller c = search leading-less

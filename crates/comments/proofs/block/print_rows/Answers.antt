@@ -12,11 +12,11 @@ loop-j-smaller c = search row-less
 pub loop-j-preserved : goal.loop-j-preserved
 loop-j-preserved c = search showing_more
 
+pub returns : goal.returns
+returns c = search showing_all
+
 pub shape_of-records : goal.shape_of-records
 shape_of-records c = (returns c).same_records
 
 pub shape_of-texts : goal.shape_of-texts
 shape_of-texts c = (returns c).same_texts
-
-pub returns : goal.returns
-returns c = search showing_all

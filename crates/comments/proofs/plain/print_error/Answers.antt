@@ -18,20 +18,20 @@ slice_bounds-print_piece-end c = omega (arith, c.loop-end.invariant.piece)
 pub loop-end-preserved : goal.loop-end-preserved
 loop-end-preserved c = search erring_more
 
-pub shape_of-records-then-at-s : goal.shape_of-records-then-at-s
-shape_of-records-then-at-s c = (returns c).same_records
-
-pub shape_of-texts-then-at-s : goal.shape_of-texts-then-at-s
-shape_of-texts-then-at-s c = (returns c).same_texts
-
 pub returns-then-at-s : goal.returns-then-at-s
 returns-then-at-s c = search erring-last
 
-pub shape_of-records-else-at-s : goal.shape_of-records-else-at-s
-shape_of-records-else-at-s c = (returns_2 c).same_records
+pub shape_of-records-then-at-s : goal.shape_of-records-then-at-s
+shape_of-records-then-at-s c = (returns-then-at-s c).same_records
 
-pub shape_of-texts-else-at-s : goal.shape_of-texts-else-at-s
-shape_of-texts-else-at-s c = (returns_2 c).same_texts
+pub shape_of-texts-then-at-s : goal.shape_of-texts-then-at-s
+shape_of-texts-then-at-s c = (returns-then-at-s c).same_texts
 
 pub returns-else-at-s : goal.returns-else-at-s
 returns-else-at-s c = search erring-all
+
+pub shape_of-records-else-at-s : goal.shape_of-records-else-at-s
+shape_of-records-else-at-s c = (returns-else-at-s c).same_records
+
+pub shape_of-texts-else-at-s : goal.shape_of-texts-else-at-s
+shape_of-texts-else-at-s c = (returns-else-at-s c).same_texts

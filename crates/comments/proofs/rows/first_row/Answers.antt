@@ -7,7 +7,7 @@ pub loop-i-init : goal.loop-i-init
 loop-i-init c = search skipping_none
 
 pub returns-then-l-gt0 : goal.returns-then-l-gt0
-returns-then-l-gt0 c = (skipping-stop c.loop-i.invariant c.loop-i-test.true c.row-l.ensures c.if-l-gt0.true, λ h. c.next_row-next.ensures)
+returns-then-l-gt0 c = record { first_row = skipping-stop c.loop-i.invariant c.loop-i-test.true c.row-l.ensures c.if-l-gt0.true; next_value = λ h. c.next_row-next.ensures }
 
 pub loop-i-smaller : goal.loop-i-smaller
 loop-i-smaller c = search row-less
@@ -16,4 +16,4 @@ pub loop-i-preserved : goal.loop-i-preserved
 loop-i-preserved c = search skipping-more
 
 pub returns : goal.returns
-returns c = (skipping_all c.loop-i.invariant c.loop-i-test.false, λ h. absurd (omega arith))
+returns c = record { first_row = skipping_all c.loop-i.invariant c.loop-i-test.false; next_value = λ h. absurd (omega arith) }

@@ -5,10 +5,12 @@ use Rattle.exports.proofs.print.tungvesk_list.Goals as goal
 
 pub returns-in_default : goal.returns-in_default
 unfolding by_mode
-returns-in_default c = rw (unknown c.mode_with-chosen.ensures c.in_default.is) (refl, (refl, (refl, (refl, refl))))
+returns-in_default c = rw (unknown c.mode_with-chosen.ensures c.in_default.is) (record { value = refl; counts_after = refl; records_after = refl; texts_after = refl; listing_after = refl })
 
 pub returns : goal.returns
 unfolding by_mode
 returns c =
-    let e = known c.mode_with-chosen.ensures c.in-Known.is in
-    rw (e, ← c.list_items.ensures.result_value, ← c.report_listed-l.ensures.answered, ← c.report_listed-l.ensures.listed) (refl, (refl, (c.list_items.ensures.records_after, (c.list_items.ensures.texts_after, c.list_items.ensures.listing_after))))
+    let e = known c.mode_with-chosen.ensures c.in
+    let r = -Known.is in
+    rw (e, ← c.list_items.ensures.result_value, ← c.report_listed-l.ensures.answered, ← c.report_listed-l.ensures.listed) (refl, (refl, (c.list_items.ensures.records_after, (c.list_items.ensures.texts_after, c.list_items.ensures.listing_after)))) in
+    record { value = r.0; counts_after = r.1.0; records_after = r.1.1.0; texts_after = r.1.1.1.0; listing_after = r.1.1.1.1 }

@@ -11,8 +11,8 @@ plan_all-requires c = stretch_region c.requires.first
 pub plan_all-requires-2 : goal.plan_all-requires-2
 plan_all-requires-2 c = stretch_region c.requires.second
 
-pub shape_of-ops : goal.shape_of-ops
-shape_of-ops c = (returns_2 c).same_ops
-
 pub returns : goal.returns
 returns c = waiting-planned _ _ _ c.args.g _ c.kinds_of-w.ensures c.plan_all.ensures c.note_kinds-v.ensures c.plan_all-2.ensures
+
+pub shape_of-ops : goal.shape_of-ops
+shape_of-ops c = (returns c).same_ops

@@ -11,7 +11,7 @@ loop-i-init c = (refl, counting-none _ _ _ _ c.no_size-p.ensures c.requires.list
 
 pub count_op-p-requires : goal.count_op-p-requires
 unfolding words flatten
-count_op-p-requires c = (c.loop-i.invariant.0, counting-fits c.loop-i.invariant.1 c.loop-i-test.true)
+count_op-p-requires c = record { all_value = c.loop-i.invariant.0; p_value = counting-fits c.loop-i.invariant.1 c.loop-i-test.true }
 
 pub loop-i-preserved : goal.loop-i-preserved
 unfolding words flatten

@@ -8,9 +8,6 @@ plan_ending-requires c = c.requires.lies
 pub close_bracket-requires : goal.close_bracket-requires
 close_bracket-requires c = c.requires.bracket_lt_word_count
 
-pub shape_of-ops : goal.shape_of-ops
-shape_of-ops c = (returns c).same_ops
-
 pub returns : goal.returns
 unfolding close_arguments
 returns c =
@@ -20,3 +17,6 @@ returns c =
     ▸ c.repeat_body.ensures _
     ▸ c.plan_ending.ensures
     ▸ c.close_bracket.ensures _
+
+pub shape_of-ops : goal.shape_of-ops
+shape_of-ops c = (returns c).same_ops

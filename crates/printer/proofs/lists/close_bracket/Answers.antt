@@ -3,9 +3,9 @@ use Rattle.printer.specs.Lists.{close_bracket}
 use Rattle.printer.proofs.Chosen.{mark_as}
 use Rattle.printer.proofs.lists.close_bracket.Goals as goal
 
-pub shape_of-ops : goal.shape_of-ops
-shape_of-ops c = (returns c blank).same_ops
-
 pub returns : goal.returns
 unfolding close_bracket
-returns c = c.plan_word.ensures s ▸ mark_as c.second_mark.ensures (c.plan_mark.ensures s)
+returns c = λ s. c.plan_word.ensures s ▸ mark_as c.second_mark.ensures (c.plan_mark.ensures s)
+
+pub shape_of-ops : goal.shape_of-ops
+shape_of-ops c = (returns c blank).same_ops

@@ -6,9 +6,6 @@ use Rattle.printer.proofs.lists.close_list.Goals as goal
 pub close_bracket-requires : goal.close_bracket-requires
 close_bracket-requires c = c.requires.bracket_lt_word_count
 
-pub shape_of-ops : goal.shape_of-ops
-shape_of-ops c = (returns c).same_ops
-
 pub returns : goal.returns
 unfolding close_list words
 returns c =
@@ -19,3 +16,6 @@ returns c =
     ▸ c.plan_word.ensures _
     ▸ c.repeat_body.ensures _
     ▸ c.close_bracket.ensures _
+
+pub shape_of-ops : goal.shape_of-ops
+shape_of-ops c = (returns c).same_ops

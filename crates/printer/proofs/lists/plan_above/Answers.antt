@@ -3,9 +3,9 @@ use Rattle.printer.specs.Lists.{above}
 use Rattle.printer.proofs.Chosen.{when_as}
 use Rattle.printer.proofs.lists.plan_above.Goals as goal
 
-pub shape_of-ops : goal.shape_of-ops
-shape_of-ops c = (returns c).same_ops
-
 pub returns : goal.returns
 unfolding above
 returns c = when_as _ c.blank_line-blank.ensures (c.newline_if.ensures _) ▸ c.plan_waiting.ensures
+
+pub shape_of-ops : goal.shape_of-ops
+shape_of-ops c = (returns c).same_ops

@@ -2,8 +2,8 @@ use Rattle.plan.proofs.Laws.{◌▸◌, by}
 use Rattle.printer.proofs.Listing.{following_is}
 use Rattle.printer.proofs.lists.plan_behind.Goals as goal
 
-pub shape_of-ops : goal.shape_of-ops
-shape_of-ops c = (returns c).same_ops
-
 pub returns : goal.returns
 returns c = by (following_is _ _ _ c.at_child-more.ensures) (c.on_line.ensures _ ▸ c.plan_inline.ensures ▸ c.behind_it.ensures _)
+
+pub shape_of-ops : goal.shape_of-ops
+shape_of-ops c = (returns c).same_ops

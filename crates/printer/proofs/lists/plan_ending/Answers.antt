@@ -1,8 +1,8 @@
 use Rattle.plan.proofs.Laws.{◌▸◌}
 use Rattle.printer.proofs.lists.plan_ending.Goals as goal
 
-pub shape_of-ops : goal.shape_of-ops
-shape_of-ops c = (returns c).same_ops
-
 pub returns : goal.returns
 returns c = c.newline_if.ensures _ ▸ c.plan_waiting.ensures
+
+pub shape_of-ops : goal.shape_of-ops
+shape_of-ops c = (returns c).same_ops

@@ -28,7 +28,8 @@ kind_in-kind-requires c = omega (arith, c.loop-i-test.true, c.loop-i.invariant.u
 
 pub find_end-end-requires : goal.find_end-end-requires
 find_end-end-requires c =
-    let n = c.count_in-n.ensures in (n, (omega (arith, n, (accepted _ c.requires.passed).long), (omega (arith, n, c.loop-i-test.true, c.loop-i.invariant.upto), filling-behind c.loop-i.invariant c.loop-i-test.true)))
+    let n = c.count_in-n.ensures in
+    record { n_value = n; n_in_bounds = omega (arith, n, (accepted _ c.requires.passed).long); i_lt_n = omega (arith, n, c.loop-i-test.true, c.loop-i.invariant.upto); indexed_from = filling-behind c.loop-i.invariant c.loop-i-test.true }
 
 pub put_entry-requires-in-loop-i : goal.put_entry-requires-in-loop-i
 put_entry-requires-in-loop-i c = omega (arith, c.loop-i-test.true, c.loop-i.invariant.upto, c.loop-i.invariant.done.room)
@@ -39,8 +40,8 @@ loop-i-smaller c = omega (arith, c.loop-i-test.true)
 pub loop-i-preserved : goal.loop-i-preserved
 loop-i-preserved c = filling-more c.loop-i.invariant c.loop-i-test.true c.size_in-start.ensures c.kind_in-kind.ensures c.find_end-end.ensures c.put_entry-in-loop-i.ensures
 
-pub shape_of-table : goal.shape_of-table
-shape_of-table c = (returns c).sized
-
 pub returns : goal.returns
 returns c = filling_all _ c.requires c.count_in-n.ensures c.put_entry.ensures c.loop-i.invariant c.loop-i-test.false
+
+pub shape_of-table : goal.shape_of-table
+shape_of-table c = (returns c).sized

@@ -3,4 +3,4 @@ use Rattle.tree.proofs.read.text_of.Goals as goal
 
 pub returns : goal.returns
 unfolding text_in
-returns c = rw (← c.??type_size.ensures, ← c.texts_of-texts.ensures, ← c.requires, ← c.behind.ensures) c.front.ensures
+returns c = rw (← c.size_of-size.ensures, ← c.texts_of-texts.ensures, ← c.requires, ← c.behind.ensures) c.front.ensures
