@@ -100,8 +100,8 @@ module _ (wanted : Class) (loose : Bool) (x : Part) (xs : List Part) where
   at_other : is wanted x ≡ false → is Class.Trivia x ≡ false → is Class.CustomError x ≡ false → (b : Bool) → is Class.Separator x ≡ b → Behind → (l : Bool) → loose ≡ l → Here
   unfolding pass step gaps turn other_turn glued
   at_other e t r b q f true k ds c ws s true = rw (e, t, r, k) (finished-none ds c ws s true true)
-  at_other e t r b q f true k ds c ws s false = rw (e, t, r, k) (rw k at (f ds c ws true false) ∙ sym (glued_on ds c ws s false true false _))
-  at_other e t r true q f false k ds c ws s h = rw (e, t, r, k, q) (rw k at (f ds c ws s h) ∙ sym (glued_on ds c ws s h s h _))
+  at_other e t r b q f true k ds c ws s false = rw (e, t, r, k) (f ds c ws true false ∙ sym (glued_on ds c ws s false true false _))
+  at_other e t r true q f false k ds c ws s h = rw (e, t, r, k, q) (f ds c ws s h ∙ sym (glued_on ds c ws s h s h _))
   at_other e t r false q f false k ds c ws s h = rw (e, t, r, k, q) refl
 
   here : Behind → Here

@@ -54,8 +54,8 @@ module _ (wanted : Class) (loose : Bool) (ts : List Part) (x : Part) (xs : List 
 
   at_other : is wanted x ≡ false → is Class.Trivia x ≡ false → is Class.CustomError x ≡ false → (b : Bool) → is Class.Separator x ≡ b → Behind → (l : Bool) → loose ≡ l → Here
   unfolding pass step leads turn other_turn widen reading_after
-  at_other e t r b q f true k ws s = rw (e, t, r, k) (rw k at (f ws true) ∙ sym (after_on ts ws (leads (kinds wanted) true xs)))
-  at_other e t r true q f false k ws s = rw (e, t, r, k, q) (rw k at (f ws s) ∙ sym (after_on ts ws (leads (kinds wanted) false xs)))
+  at_other e t r b q f true k ws s = rw (e, t, r, k) (f ws true ∙ sym (after_on ts ws (leads (kinds wanted) loose xs)))
+  at_other e t r true q f false k ws s = rw (e, t, r, k, q) (f ws s ∙ sym (after_on ts ws (leads (kinds wanted) loose xs)))
   at_other e t r false q f false k ws s = rw (e, t, r, k, q) refl
 
   here : Behind → Here

@@ -181,13 +181,23 @@ pub beside-one : (doc : Bool) (s l : List ℕ) (j : ℕ) → l ≡ first_or [] (
 unfolding unpadded flatten
 beside-one doc s l j e q h = rw (row_step s l 0 j (omega arith) e q, rows_none s j h)
 
+-- the padding of two lines or more beside the opening is counted from the second
+two_padded : (l m : List ℕ) (rs : List (List ℕ)) → common_padding true (l ∷ m ∷ rs) ≡ common (padding m m) rs
+unfolding common_padding
+two_padded l m rs = rw (lt-ltb 1 (suc (suc (length rs))) (omega arith))
+
+two_unpadded : (l m : List ℕ) (rs : List (List ℕ)) → unpadded true (l ∷ m ∷ rs) ≡ l ∷ map (drop (length (common (padding m m) rs))) (m ∷ rs)
+unfolding unpadded
+two_unpadded l m rs = ap (λ (n : ℕ). l ∷ map (drop n) (m ∷ rs)) (ap length (two_padded l m rs))
+
 -- a comment of more lines beside its opening
 pub beside-more : (doc : Bool) (s l m : List ℕ) (j k n : ℕ) → l ≡ first_or [] (rows s 0) → j ≡ suc (line_end s 0) → j ≤ length s
     → m ≡ first_or [] (rows s j) → k ≡ suc (line_end s j) → n ≡ length (common (padding m m) (rows s k))
     → one_line doc l ++ shown doc n (rows s j) ≡ flatten (map (one_line doc) (unpadded true (rows s 0)))
-unfolding unpadded common_padding flatten
+unfolding flatten
 beside-more doc s l m j k n e q h f p d =
-    rw (row_step s l 0 j (omega arith) e q, row_step s m j k h f p) ?
+    let two : rows s 0 ≡ l ∷ m ∷ rows s k = row_step s l 0 j (omega arith) e q ∙ ap (λ (ls : List (List ℕ)). l ∷ ls) (row_step s m j k h f p) in
+    rw (d, two, row_step s m j k h f p, two_unpadded l m (rows s k))
 
 -- the lines by where the first begins
 pub begun : (doc t u : Bool) (s : List ℕ) {o a : Held} → t ≡ u → Says (flatten (map (one_line doc) (unpadded u (rows s 0)))) o a → Says (flatten (map (one_line doc) (unpadded t (rows s 0)))) o a
