@@ -1,5 +1,5 @@
 -- A comment has no runs.
-use Rattle.core.specs.Prelude.{◌≡◌, ℕ, List}
+use Rattle.std.specs.Prelude.{◌≡◌, ℕ, List}
 use mathlib.Core.Path.{refl}
 use native.Mathlib.Omega.{arith}
 use Rattle.text.specs.Basic.{sum, All, ∅, ◌▹◌}

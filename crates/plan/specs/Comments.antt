@@ -1,5 +1,5 @@
 -- format_comments of a list of parts.
-use Rattle.core.specs.Prelude.{List, [], ◌∷◌}
+use Rattle.std.specs.Prelude.{List, [], ◌∷◌}
 use Rattle.items.specs.Item.{Print, ◌⨟◌, none, says}
 use Rattle.comments.specs.Comments.{Location, comment}
 use Rattle.tree.specs.Tree.{Part}

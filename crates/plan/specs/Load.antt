@@ -1,5 +1,5 @@
 -- What items weigh: 1 each, or more than any array holds where a number has no room in an operation.
-use Rattle.core.specs.Prelude.{◌≡◌, ℕ, ◌^◌, ◌≤◌, cond, List, length, nat_lt}
+use Rattle.std.specs.Prelude.{◌≡◌, ℕ, ◌^◌, ◌≤◌, cond, List, length, nat_lt}
 use Rattle.text.specs.Basic.{sum}
 use Rattle.items.specs.Item.{always, lines, Item, text, signal, mark, run, runEnd, again, if_test}
 use Rattle.items.specs.Role.{runs_of}

@@ -1,5 +1,5 @@
 -- A plan: what is to be printed, one operation after another, a number each.
-use Rattle.core.specs.Prelude.{ℕ, zero, suc, ◌+◌, ◌*◌, ◌/◌, ◌%◌, cond, List, [], ◌∷◌, ◌++◌, ◌==◌, nat_le, slice_index}
+use Rattle.std.specs.Prelude.{ℕ, zero, suc, ◌+◌, ◌*◌, ◌/◌, ◌%◌, cond, List, [], ◌∷◌, ◌++◌, ◌==◌, nat_le, slice_index}
 use Rattle.text.specs.Basic.{ascii}
 use Rattle.items.specs.Item.{Item, text, plain_item}
 use Rattle.comments.specs.Comments.{Location, above_item, itemInline, endOfItems, comment}

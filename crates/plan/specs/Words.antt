@@ -1,5 +1,5 @@
 -- The texts of the formatter's own, by their numbers.
-use Rattle.core.specs.Prelude.{◌≡◌, ℕ, ◌<◌, cond, List, [], ◌∷◌, ◌==◌}
+use Rattle.std.specs.Prelude.{◌≡◌, ℕ, ◌<◌, cond, List, [], ◌∷◌, ◌==◌}
 use Prim.Native.String.{String}
 use Rattle.text.specs.Words.{word_in}
 use Rattle.items.specs.Item.{Print, none, lit}

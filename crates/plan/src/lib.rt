@@ -6,7 +6,7 @@ pub mod notes;
 pub mod words;
 pub mod write;
 
-ghost use Rattle.core.specs.Prelude.{◌≡◌, ℕ, ◌<◌, List, length, ◌==◌, slice_index, slice_set};
+ghost use Rattle.std.specs.Prelude.{◌≡◌, ℕ, ◌<◌, List, length, ◌==◌, slice_index, slice_set};
 ghost use Rattle.items.specs.Item.{say, says, lit, open_run, stopped, text, signal, condition_test, mark, runEnd, again, if_test};
 ghost use Rattle.numbers.specs.Mode.{mode_number, mode_at, keeps};
 ghost use Rattle.comments.specs.Place.{place};

@@ -1,5 +1,5 @@
 // Planning the trivia and the custom errors of a gap.
-ghost use Rattle.core.specs.Prelude.{◌<◌, [], ◌∷◌};
+ghost use Rattle.std.specs.Prelude.{◌<◌, [], ◌∷◌};
 ghost use Rattle.comments.specs.Place.{place};
 ghost use Rattle.tree.specs.Class.{all_of};
 ghost use Rattle.tree.specs.Index.{part_at, parts_from, Region};

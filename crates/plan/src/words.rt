@@ -1,5 +1,5 @@
 // The texts of the formatter's own, by their numbers.
-ghost use Rattle.core.specs.Prelude.{◌≡◌, ◌≤◌};
+ghost use Rattle.std.specs.Prelude.{◌≡◌, ◌≤◌};
 ghost use Rattle.text.specs.Basic.{ascii};
 ghost use Rattle.text.specs.Words.{joined_words, word_start};
 ghost use Rattle.plan.specs.Words.{words, word_at, word_count};

@@ -1,5 +1,5 @@
 // Writes the records and texts of a plan, or counts them.
-ghost use Rattle.core.specs.Prelude.{◌≡◌, ◌≤◌, true, false, length};
+ghost use Rattle.std.specs.Prelude.{◌≡◌, ◌≤◌, true, false, length};
 ghost use Rattle.text.specs.Words.{joined_words};
 ghost use Rattle.items.specs.Machine.{PutsIn, all_fit, sized, no_size};
 ghost use Rattle.comments.specs.Place.{place};

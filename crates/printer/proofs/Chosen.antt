@@ -1,5 +1,5 @@
 -- Printings that a test, a kind of list or a number picks.
-use Rattle.core.specs.Prelude.{◌≡◌, ℕ, ◌*◌, Bool, true, false, List}
+use Rattle.std.specs.Prelude.{◌≡◌, ℕ, ◌*◌, Bool, true, false, List}
 use mathlib.Core.Path.{ap}
 use Rattle.items.specs.Item.{Test, always, lines, mark, Print, say, lit, when, signal}
 use Rattle.plan.specs.Ops.{Source}

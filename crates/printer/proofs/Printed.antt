@@ -1,5 +1,5 @@
 -- What the calls of a printer leave, put together: the laws that each printer of a list, a comprehension, a local or an expression ends with.
-use Rattle.core.specs.Prelude.{◌≡◌, ℕ, ◌+◌, Bool, true, false, not, ◌&&◌, ◌||◌, eqb, List}
+use Rattle.std.specs.Prelude.{◌≡◌, ℕ, ◌+◌, Bool, true, false, not, ◌&&◌, ◌||◌, eqb, List}
 use mathlib.Core.Path.{refl, sym, ap, ◌∙◌}
 use mathlib.Core.Bool.{false≢true}
 use mathlib.Core.Option.{Option, none as nothing, some}

@@ -1,5 +1,5 @@
 -- Walks over the children of a reading.
-use Rattle.core.specs.Prelude.{◌≡◌, ℕ, ◌+◌, Bool, true, false, List}
+use Rattle.std.specs.Prelude.{◌≡◌, ℕ, ◌+◌, Bool, true, false, List}
 use mathlib.Core.Path.{refl, sym, ◌∙◌}
 use mathlib.Core.Option.{Option, none as nothing, some}
 use native.Mathlib.Omega.{arith}

@@ -1,5 +1,5 @@
 -- Equations of printings in a row, and what a loop has printed so far.
-use Rattle.core.specs.Prelude.{◌≡◌, ℕ, Bool, true, false, List, [], ◌++◌}
+use Rattle.std.specs.Prelude.{◌≡◌, ℕ, Bool, true, false, List, [], ◌++◌}
 use mathlib.Core.Path.{refl}
 use mathlib.Core.List.{append-nil, append_assoc}
 use Rattle.items.specs.Item.{Item, Out, stop, ok, Context, Print, after, next, ◌⨟◌, none, when, keeping}

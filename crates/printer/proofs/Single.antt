@@ -1,5 +1,5 @@
 -- The laws of a local's one bind, and of the CompSpecs of an object comprehension.
-use Rattle.core.specs.Prelude.{◌≡◌, ℕ, ◌≤◌, Bool, true, false, List, [], ◌∷◌, length}
+use Rattle.std.specs.Prelude.{◌≡◌, ℕ, ◌≤◌, Bool, true, false, List, [], ◌∷◌, length}
 use mathlib.Core.Path.{refl, sym, ap, ◌∙◌}
 use mathlib.Core.Option.{none as nothing, some}
 use native.Mathlib.Omega.{arith}

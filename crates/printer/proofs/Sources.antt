@@ -1,5 +1,5 @@
 -- The laws of a source file: what stands before and behind its expression.
-use Rattle.core.specs.Prelude.{◌≡◌, ℕ, ◌+◌, List}
+use Rattle.std.specs.Prelude.{◌≡◌, ℕ, ◌+◌, List}
 use mathlib.Core.Path.{sym, ◌∙◌}
 use mathlib.Core.Option.{Option, none as nothing, some}
 use Rattle.items.specs.Item.{newline, ◌⨟◌, say, stopped, lit}

@@ -1,5 +1,5 @@
 -- What an element prints, read off the index, and what holds of its children.
-use Rattle.core.specs.Prelude.{◌≡◌, ℕ, zero, suc, ◌+◌, ◌-◌, ◌^◌, ◌<◌, Bool, true, false, ◌&&◌, ltb, leb, List, [], ◌++◌, drop}
+use Rattle.std.specs.Prelude.{◌≡◌, ℕ, zero, suc, ◌+◌, ◌-◌, ◌^◌, ◌<◌, Bool, true, false, ◌&&◌, ltb, leb, List, [], ◌++◌, drop}
 use mathlib.Core.Path.{refl, ◌∙◌, sym}
 use mathlib.Core.List.{append-nil}
 use native.Mathlib.Omega.{arith}

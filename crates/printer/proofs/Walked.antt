@@ -1,5 +1,5 @@
 -- A reading's children are printed by walking its gaps, and what a step of the walk is over spans.
-use Rattle.core.specs.Prelude.{◌≡◌, ℕ, Bool, true, false, cond, List, [], ◌∷◌, length}
+use Rattle.std.specs.Prelude.{◌≡◌, ℕ, Bool, true, false, cond, List, [], ◌∷◌, length}
 use mathlib.Core.Path.{refl, ◌∙◌, sym}
 use mathlib.Core.Bool.{false≢true}
 use native.Mathlib.Omega.{arith}

@@ -1,5 +1,5 @@
 -- The laws of walks over the children of a reading.
-use Rattle.core.specs.Prelude.{◌≡◌, ℕ, ◌-◌, ◌<◌, ◌≤◌, Bool, true, false, List, [], length}
+use Rattle.std.specs.Prelude.{◌≡◌, ℕ, ◌-◌, ◌<◌, ◌≤◌, Bool, true, false, List, [], length}
 use mathlib.Core.Path.{◌∙◌}
 use mathlib.Core.Option.{none as nothing, some}
 use native.Mathlib.Omega.{arith}

@@ -1,5 +1,5 @@
 -- What contracts of printers name: parts, gaps, readings and printings of a lent image with its lent index.
-use Rattle.core.specs.Prelude.{ℕ, ◌+◌, Bool, List, ◌==◌}
+use Rattle.std.specs.Prelude.{ℕ, ◌+◌, Bool, List, ◌==◌}
 use Rattle.std.proofs.Math.Option.{Option, some}
 use Rattle.text.specs.Basic.{or_else}
 use Rattle.text.specs.Lent.{Lent}

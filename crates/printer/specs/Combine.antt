@@ -1,5 +1,5 @@
 -- Small printings that the printing is made of: conditions, groups, commas, comments.
-use Rattle.core.specs.Prelude.{ℕ, ◌+◌, ◌*◌, Bool, true, false}
+use Rattle.std.specs.Prelude.{ℕ, ◌+◌, ◌*◌, Bool, true, false}
 use Prim.Native.String.{String}
 use Rattle.items.specs.Item.{Test, always, lines, newline, space_or_newline, mark, group, group_end, if_test, else_item, end_if, Print, ◌⨟◌, say, lit, when, with_number}
 use Rattle.comments.specs.Comments.{endOfItems}

@@ -1,5 +1,5 @@
 -- lib.rs, the nodes with a fixed layout: a row of pieces for each kind.
-use Rattle.core.specs.Prelude.{ℕ, Bool, true, false, cond, not, ◌&&◌, ◌||◌, List, [], ◌∷◌, ◌==◌}
+use Rattle.std.specs.Prelude.{ℕ, Bool, true, false, cond, not, ◌&&◌, ◌||◌, List, [], ◌∷◌, ◌==◌}
 use Prim.Native.String.{String}
 use Rattle.text.specs.Basic.{is_nil, present, any}
 use Rattle.items.specs.declared.Signal.{Signal}

@@ -1,5 +1,5 @@
 -- What stands around the children of each kind of list, and what opens and closes a list, as the code prints it.
-use Rattle.core.specs.Prelude.{ℕ, ◌+◌, ◌*◌, Bool, ◌&&◌, List, nat_le}
+use Rattle.std.specs.Prelude.{ℕ, ◌+◌, ◌*◌, Bool, ◌&&◌, List, nat_le}
 use Prim.Native.String.{String}
 use Rattle.items.specs.Item.{Test, newline, mark, group, group_end, block, block_end, runEnd, again, if_test, else_item, end_if, Print, ◌⨟◌, none, say, lit, when, open_run}
 use Rattle.tree.specs.declared.class.Class.{Class}

@@ -1,5 +1,5 @@
 -- lib.rs: what each node prints, from what its children print. A list's body stands once.
-use Rattle.core.specs.Prelude.{ℕ, ◌*◌, Bool, cond, not, ◌||◌, List, [], ◌∷◌, ◌==◌, nat_le}
+use Rattle.std.specs.Prelude.{ℕ, ◌*◌, Bool, cond, not, ◌||◌, List, [], ◌∷◌, ◌==◌, nat_le}
 use Rattle.std.proofs.Math.Option.{Option, none as nothing, some}
 use Prim.Native.String.{String}
 use Rattle.text.specs.Basic.{ascii, is_nil}

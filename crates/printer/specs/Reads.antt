@@ -1,5 +1,5 @@
 -- Where the printers read: the readings of an element, and what is asked of them.
-use Rattle.core.specs.Prelude.{◌≡◌, ℕ, ◌+◌, ◌<◌, ◌≤◌, Bool, true, cond, List, [], ◌==◌}
+use Rattle.std.specs.Prelude.{◌≡◌, ℕ, ◌+◌, ◌<◌, ◌≤◌, Bool, true, cond, List, [], ◌==◌}
 use Rattle.std.proofs.Math.Option.{Option, none as nothing, some}
 use Rattle.items.specs.Item.{Print}
 use Rattle.tree.specs.Tree.{Part}

@@ -1,5 +1,5 @@
 -- What an element of an image prints, over the index: its kind, its text, its parts and what its children print.
-use Rattle.core.specs.Prelude.{ℕ, suc, ◌+◌, ◌<◌, List, drop}
+use Rattle.std.specs.Prelude.{ℕ, suc, ◌+◌, ◌<◌, List, drop}
 use Rattle.items.specs.Item.{Print}
 use Rattle.tree.specs.Tree.{Forest, Part, count_n, elements_of, forest, texts, parts}
 use Rattle.tree.specs.Image.{kind_in, level_in, text_in}

@@ -1,5 +1,5 @@
 -- A reading's children printed gap by gap: what is printed of each child, and what a survey says.
-use Rattle.core.specs.Prelude.{◌≡◌, ℕ, Bool, true, false, ◌&&◌, List, [], length, nat_le}
+use Rattle.std.specs.Prelude.{◌≡◌, ℕ, Bool, true, false, ◌&&◌, List, [], length, nat_le}
 use Rattle.items.specs.Item.{Print, ◌⨟◌, none, keeping}
 use Rattle.comments.specs.Comments.{above_item, itemInline, endOfItems}
 use Rattle.tree.specs.Tree.{Part}

@@ -1,5 +1,5 @@
 // What stands around the children of a list, and what opens and closes one.
-ghost use Rattle.core.specs.Prelude.{◌≡◌, ◌+◌, ◌*◌, ◌<◌, false, not, ◌&&◌, ◌==◌};
+ghost use Rattle.std.specs.Prelude.{◌≡◌, ◌+◌, ◌*◌, ◌<◌, false, not, ◌&&◌, ◌==◌};
 ghost use Rattle.text.specs.Basic.{is_nil};
 ghost use Rattle.items.specs.Item.{newline, indent, outdent, ◌⨟◌, say, lit, when, keeping, condition_test};
 ghost use Rattle.children.specs.Spans.{Lies};

@@ -1,5 +1,5 @@
 // Looking up parts of a node. Nothing here prints.
-ghost use Rattle.core.specs.Prelude.{◌≡◌, ◌+◌, ◌<◌, true, false};
+ghost use Rattle.std.specs.Prelude.{◌≡◌, ◌+◌, ◌<◌, true, false};
 ghost use Rattle.text.specs.Basic.{any};
 ghost use Rattle.tree.specs.Answer.{found};
 ghost use Rattle.tree.specs.declared.class.Class.TheVariants.{RBrace};

@@ -1,5 +1,5 @@
 // Pieces that stand by themselves, and what surrounds each of several parts.
-ghost use Rattle.core.specs.Prelude.{◌≡◌, ℕ, ◌<◌, List};
+ghost use Rattle.std.specs.Prelude.{◌≡◌, ℕ, ◌<◌, List};
 ghost use Rattle.items.specs.Item.{newline, Print, ◌⨟◌, say, lit, when};
 ghost use Rattle.tree.specs.Tree.{Part};
 ghost use Rattle.plan.specs.Words.{word_count};

@@ -1,6 +1,6 @@
 // The printers, which call one another round the tree: the number of elements under the node falls, or stays the same on
 // the way from a node to its list or row.
-ghost use Rattle.core.specs.Prelude.{◌≡◌, ◌<◌, [], ◌∷◌, length};
+ghost use Rattle.std.specs.Prelude.{◌≡◌, ◌<◌, [], ◌∷◌, length};
 ghost use Rattle.std.proofs.Math.Option.{none, some};
 ghost use Rattle.items.specs.Item.{newline, ◌⨟◌, say, lit};
 ghost use Rattle.tree.specs.Answer.{found};

@@ -1,5 +1,5 @@
 // The rows of pieces: what nodes with a fixed layout print.
-ghost use Rattle.core.specs.Prelude.{◌≡◌, ◌<◌};
+ghost use Rattle.std.specs.Prelude.{◌≡◌, ◌<◌};
 ghost use Rattle.tree.specs.Class.{kinds};
 ghost use Rattle.printer.specs.Rows.{want_at, bits_at, entry_of, extent_of, Coded, RowOf, WantOf, MarksOf, want_count, piece_count};
 

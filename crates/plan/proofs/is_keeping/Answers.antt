@@ -1,4 +1,4 @@
-use Rattle.core.specs.Prelude.{get_or}
+use Rattle.std.specs.Prelude.{get_or}
 use Rattle.plan.proofs.Cells.{keeps_by}
 use Rattle.plan.proofs.is_keeping.Goals as goal
 

@@ -1,4 +1,4 @@
-use Rattle.core.specs.Prelude.{◌-◌}
+use Rattle.std.specs.Prelude.{◌-◌}
 use Rattle.plan.proofs.Noted.{noting_none, noting-less, noting-few, noting-more, noting-all}
 use Rattle.plan.proofs.notes.plan_all.Goals as goal
 

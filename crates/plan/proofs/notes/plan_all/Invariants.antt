@@ -1,4 +1,4 @@
-use Rattle.core.specs.Prelude.{◌-◌}
+use Rattle.std.specs.Prelude.{◌-◌}
 use Rattle.comments.specs.Place.{place}
 use Rattle.plan.specs.Plans.{held}
 use Rattle.plan.proofs.Noted.{Noting}

@@ -1,4 +1,4 @@
-use Rattle.core.specs.Prelude.{◌≡◌, ◌-◌}
+use Rattle.std.specs.Prelude.{◌≡◌, ◌-◌}
 use Rattle.text.specs.Words.{joined_words}
 use Rattle.plan.specs.Words.{words}
 use Rattle.plan.specs.Ops.{source_at}

@@ -1,5 +1,5 @@
 use mathlib.Core.Path.{ap}
-use Rattle.core.specs.Prelude.{Bool, not, ◌&&◌, eqb}
+use Rattle.std.specs.Prelude.{Bool, not, ◌&&◌, eqb}
 use Rattle.printer.proofs.lists.is_empty.Goals as goal
 
 pub returns : goal.returns

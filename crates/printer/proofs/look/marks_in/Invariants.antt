@@ -1,4 +1,4 @@
-use Rattle.core.specs.Prelude.{◌-◌}
+use Rattle.std.specs.Prelude.{◌-◌}
 use Rattle.printer.proofs.Marking.{Marking}
 use Rattle.printer.proofs.look.marks_in.Given as goal
 

@@ -1,4 +1,4 @@
-use Rattle.core.specs.Prelude.{[]}
+use Rattle.std.specs.Prelude.{[]}
 use Rattle.items.specs.Item.{none}
 use Rattle.plan.proofs.Laws.{blank}
 use Rattle.printer.proofs.Chosen.{fixed-text, fixed-signal}

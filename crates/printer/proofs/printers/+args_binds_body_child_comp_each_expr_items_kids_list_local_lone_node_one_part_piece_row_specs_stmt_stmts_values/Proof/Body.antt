@@ -1,4 +1,4 @@
-use Rattle.core.specs.Prelude.{ℕ}
+use Rattle.std.specs.Prelude.{ℕ}
 use borrow.Author.Rules.{rules}
 use native.Mathlib.Omega.{arith}
 use Rattle.plan.proofs.Laws.{by}

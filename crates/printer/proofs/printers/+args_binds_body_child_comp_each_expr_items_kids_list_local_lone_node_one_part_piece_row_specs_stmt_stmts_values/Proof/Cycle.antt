@@ -1,5 +1,5 @@
 -- The measures of the cycle, and what each printer is given and asks of the others at a measure t.
-use Rattle.core.specs.Prelude.{ℕ, ◌+◌, ◌*◌, ◌<◌}
+use Rattle.std.specs.Prelude.{ℕ, ◌+◌, ◌*◌, ◌<◌}
 use borrow.Fn.Kinds.{In}
 use borrow.Fn.PlainCycle.{Measures, is, falls, and}
 use Rattle.printer.proofs.printers.args.Reads as args

@@ -1,4 +1,4 @@
-use Rattle.core.specs.Prelude.{ℕ, ◌-◌, eqb}
+use Rattle.std.specs.Prelude.{ℕ, ◌-◌, eqb}
 use native.Mathlib.Omega.{arith}
 use borrow.Author.Rules.{rules}
 use Rattle.printer.proofs.Rowing.{Eaching, eaching-none, eaching-kid, eaching-less, eaching-more, eaching-all}

@@ -1,4 +1,4 @@
-use Rattle.core.specs.Prelude.{ℕ, ◌-◌}
+use Rattle.std.specs.Prelude.{ℕ, ◌-◌}
 use borrow.Author.Rules.{rules}
 use Rattle.children.proofs.Uses.{child_is}
 use Rattle.printer.proofs.Walking.{walks-region, walks_less, Walking, walking-none, walking-more, walking-all_lem}

@@ -1,4 +1,4 @@
-use Rattle.core.specs.Prelude.{ℕ}
+use Rattle.std.specs.Prelude.{ℕ}
 use borrow.Author.Rules.{rules}
 use Rattle.printer.proofs.Rowing.{class-tested, kid_falls, each-other, each-one}
 use Rattle.plan.proofs.Laws.{by, idle}

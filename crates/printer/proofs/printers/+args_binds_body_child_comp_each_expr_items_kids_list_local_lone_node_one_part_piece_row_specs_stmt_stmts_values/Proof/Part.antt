@@ -1,4 +1,4 @@
-use Rattle.core.specs.Prelude.{ℕ}
+use Rattle.std.specs.Prelude.{ℕ}
 use borrow.Author.Rules.{rules}
 use Rattle.printer.proofs.Rowing.{found_kid, kid_falls, number-found, number-none}
 use Rattle.plan.proofs.Laws.{by}

@@ -1,4 +1,4 @@
-use Rattle.core.specs.Prelude.{ℕ}
+use Rattle.std.specs.Prelude.{ℕ}
 use Rattle.printer.proofs.Rowing.{piece-unasked, piece-asked_lem, piece-each, piece-part}
 use Rattle.plan.proofs.Laws.{by, idle}
 use mathlib.Core.Path.{sym, ap, ◌∙◌}

@@ -1,5 +1,5 @@
 use mathlib.Core.Path.{refl}
-use Rattle.core.specs.Prelude.{ℕ, ◌-◌}
+use Rattle.std.specs.Prelude.{ℕ, ◌-◌}
 use native.Mathlib.Omega.{arith}
 use borrow.Author.Rules.{rules}
 use Rattle.printer.proofs.Rowing.{Rowing, rowing-none, rowing_more, rowing-in, rowing-all}
