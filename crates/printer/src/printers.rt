@@ -42,6 +42,7 @@ use tree::{Found, is_nothing};
 
 // Element i.
 #[cycle(args_binds_body_child_comp_each_expr_items_kids_list_local_lone_node_one_part_piece_row_specs_stmt_stmts_values)]
+#[cycle(printers)]
 fn node(ops: &mut [u32], cells: &mut [u32; 8], image: &[u8], index: &[u32], i: Element)
     requires { At image.now index.now i.0 }
     ensures { PlansIn ops cells image index (print_of image.now i.0) }
@@ -65,6 +66,7 @@ fn node(ops: &mut [u32], cells: &mut [u32; 8], image: &[u8], index: &[u32], i: E
 
 // A node with a fixed layout: the pieces of its row.
 #[cycle(args_binds_body_child_comp_each_expr_items_kids_list_local_lone_node_one_part_piece_row_specs_stmt_stmts_values)]
+#[cycle(printers)]
 fn row(ops: &mut [u32], cells: &mut [u32; 8], image: &[u8], index: &[u32], i: Element)
     requires at { At image.now index.now i.0 }
     requires i_bound { kind_at index.now i.0 < 64 }
@@ -82,6 +84,7 @@ fn row(ops: &mut [u32], cells: &mut [u32; 8], image: &[u8], index: &[u32], i: El
 
 // A piece of the row of element i, whose parts have the marks m.
 #[cycle(args_binds_body_child_comp_each_expr_items_kids_list_local_lone_node_one_part_piece_row_specs_stmt_stmts_values)]
+#[cycle(printers)]
 fn piece(
     ops: &mut [u32],
     cells: &mut [u32; 8],
@@ -114,6 +117,7 @@ fn piece(
 
 // A part of element i, or the text that says what is missing.
 #[cycle(args_binds_body_child_comp_each_expr_items_kids_list_local_lone_node_one_part_piece_row_specs_stmt_stmts_values)]
+#[cycle(printers)]
 pub fn part(
     ops: &mut [u32],
     cells: &mut [u32; 8],
@@ -136,6 +140,7 @@ pub fn part(
 
 // All parts of a class of element i.
 #[cycle(args_binds_body_child_comp_each_expr_items_kids_list_local_lone_node_one_part_piece_row_specs_stmt_stmts_values)]
+#[cycle(printers)]
 fn each(ops: &mut [u32], cells: &mut [u32; 8], image: &[u8], index: &[u32], i: Element, x: Entry)
     requires at { At image.now index.now i.0 }
     requires want_lt_want_count { x.want < want_count }
@@ -152,6 +157,7 @@ fn each(ops: &mut [u32], cells: &mut [u32; 8], image: &[u8], index: &[u32], i: E
 
 // Element j under element i, if it is of the class.
 #[cycle(args_binds_body_child_comp_each_expr_items_kids_list_local_lone_node_one_part_piece_row_specs_stmt_stmts_values)]
+#[cycle(printers)]
 fn one(
     ops: &mut [u32],
     cells: &mut [u32; 8],
@@ -176,6 +182,7 @@ fn one(
 
 // An expression: statements, the expression at its base, suffixes.
 #[cycle(args_binds_body_child_comp_each_expr_items_kids_list_local_lone_node_one_part_piece_row_specs_stmt_stmts_values)]
+#[cycle(printers)]
 fn expr(ops: &mut [u32], cells: &mut [u32; 8], image: &[u8], index: &[u32], i: Element)
     requires { At image.now index.now i.0 }
     ensures { PlansIn ops cells image index (expression (under_in image i.0) (parts_in image index i.0) (first ExprBase (parts_in image index i.0))) }
@@ -192,6 +199,7 @@ fn expr(ops: &mut [u32], cells: &mut [u32; 8], image: &[u8], index: &[u32], i: E
 
 // The statements of a reading of element i, with the comments that are kept. Most readings have no element.
 #[cycle(args_binds_body_child_comp_each_expr_items_kids_list_local_lone_node_one_part_piece_row_specs_stmt_stmts_values)]
+#[cycle(printers)]
 fn stmts(ops: &mut [u32], cells: &mut [u32; 8], image: &[u8], index: &[u32], i: Element, z: Bounds)
     requires { Within image.now index.now i.0 z }
     ensures { PlansIn ops cells image index (statementsOf (under_in image i.0) (read_in image index Stmt z none)) }
@@ -217,6 +225,7 @@ fn stmts(ops: &mut [u32], cells: &mut [u32; 8], image: &[u8], index: &[u32], i: 
 
 // Statement j of element i, with the gaps before and behind it.
 #[cycle(args_binds_body_child_comp_each_expr_items_kids_list_local_lone_node_one_part_piece_row_specs_stmt_stmts_values)]
+#[cycle(printers)]
 fn stmt(
     ops: &mut [u32],
     cells: &mut [u32; 8],
@@ -239,6 +248,7 @@ fn stmt(
 
 // The suffixes of a reading of element i, without their comments. Most readings have no element.
 #[cycle(args_binds_body_child_comp_each_expr_items_kids_list_local_lone_node_one_part_piece_row_specs_stmt_stmts_values)]
+#[cycle(printers)]
 fn values(ops: &mut [u32], cells: &mut [u32; 8], image: &[u8], index: &[u32], i: Element, z: Bounds)
     requires { Within image.now index.now i.0 z }
     ensures { PlansIn ops cells image index (values_of (under_in image i.0) (read_in image index Suffix z none)) }
@@ -261,6 +271,7 @@ fn values(ops: &mut [u32], cells: &mut [u32; 8], image: &[u8], index: &[u32], i:
 
 // The children of a list of element i, from a gap on.
 #[cycle(args_binds_body_child_comp_each_expr_items_kids_list_local_lone_node_one_part_piece_row_specs_stmt_stmts_values)]
+#[cycle(printers)]
 fn kids(
     ops: &mut [u32],
     cells: &mut [u32; 8],
@@ -288,6 +299,7 @@ fn kids(
 
 // The children of a reading of element i, with their comments.
 #[cycle(args_binds_body_child_comp_each_expr_items_kids_list_local_lone_node_one_part_piece_row_specs_stmt_stmts_values)]
+#[cycle(printers)]
 fn items(
     ops: &mut [u32],
     cells: &mut [u32; 8],
@@ -310,6 +322,7 @@ fn items(
 
 // Child j of element i, with the gaps before and behind it.
 #[cycle(args_binds_body_child_comp_each_expr_items_kids_list_local_lone_node_one_part_piece_row_specs_stmt_stmts_values)]
+#[cycle(printers)]
 fn child(
     ops: &mut [u32],
     cells: &mut [u32; 8],
@@ -334,6 +347,7 @@ fn child(
 
 // An array, or the members of an object.
 #[cycle(args_binds_body_child_comp_each_expr_items_kids_list_local_lone_node_one_part_piece_row_specs_stmt_stmts_values)]
+#[cycle(printers)]
 fn list(ops: &mut [u32], cells: &mut [u32; 8], image: &[u8], index: &[u32], i: Element, l: ListKind)
     requires { At image.now index.now i.0 }
     ensures { PlansIn ops cells image index (list_in image index i.0 l) }
@@ -359,6 +373,7 @@ fn list(ops: &mut [u32], cells: &mut [u32; 8], image: &[u8], index: &[u32], i: E
 
 // The arguments of a call.
 #[cycle(args_binds_body_child_comp_each_expr_items_kids_list_local_lone_node_one_part_piece_row_specs_stmt_stmts_values)]
+#[cycle(printers)]
 fn args(ops: &mut [u32], cells: &mut [u32; 8], image: &[u8], index: &[u32], i: Element)
     requires { At image.now index.now i.0 }
     ensures { PlansIn ops cells image index (arguments (under_in image i.0) (enclosed Arg LParen RParen (parts_in image index i.0))) }
@@ -388,6 +403,7 @@ fn args(ops: &mut [u32], cells: &mut [u32; 8], image: &[u8], index: &[u32], i: E
 
 // An object comprehension: the reading of its members.
 #[cycle(args_binds_body_child_comp_each_expr_items_kids_list_local_lone_node_one_part_piece_row_specs_stmt_stmts_values)]
+#[cycle(printers)]
 fn comp(ops: &mut [u32], cells: &mut [u32; 8], image: &[u8], index: &[u32], i: Element)
     requires { At image.now index.now i.0 }
     ensures { PlansIn ops cells image index (comprehension (under_in image i.0) i.0 (parts_in image index i.0) (first CompSpec (parts_in image index i.0))) }
@@ -410,6 +426,7 @@ fn comp(ops: &mut [u32], cells: &mut [u32; 8], image: &[u8], index: &[u32], i: E
 
 // An object comprehension from the reading of its members: the reading of its CompSpecs, and both printed.
 #[cycle(args_binds_body_child_comp_each_expr_items_kids_list_local_lone_node_one_part_piece_row_specs_stmt_stmts_values)]
+#[cycle(printers)]
 fn body(
     ops: &mut [u32],
     cells: &mut [u32; 8],
@@ -453,6 +470,7 @@ fn body(
 
 // The CompSpecs of an object comprehension; the trivia behind its members stands before the first.
 #[cycle(args_binds_body_child_comp_each_expr_items_kids_list_local_lone_node_one_part_piece_row_specs_stmt_stmts_values)]
+#[cycle(printers)]
 fn specs(
     ops: &mut [u32],
     cells: &mut [u32; 8],
@@ -504,6 +522,7 @@ fn specs(
 
 // A local statement.
 #[cycle(args_binds_body_child_comp_each_expr_items_kids_list_local_lone_node_one_part_piece_row_specs_stmt_stmts_values)]
+#[cycle(printers)]
 fn local(ops: &mut [u32], cells: &mut [u32; 8], image: &[u8], index: &[u32], i: Element)
     requires { At image.now index.now i.0 }
     ensures { PlansIn ops cells image index (localOf (under_in image i.0) (enclosed Bind Local Semi (parts_in image index i.0)) ⨟ lit ";" ⨟ say newline) }
@@ -515,6 +534,7 @@ fn local(ops: &mut [u32], cells: &mut [u32; 8], image: &[u8], index: &[u32], i: 
 
 // The binds of a local statement.
 #[cycle(args_binds_body_child_comp_each_expr_items_kids_list_local_lone_node_one_part_piece_row_specs_stmt_stmts_values)]
+#[cycle(printers)]
 fn binds(ops: &mut [u32], cells: &mut [u32; 8], image: &[u8], index: &[u32], i: Element)
     requires { At image.now index.now i.0 }
     ensures { PlansIn ops cells image index (localOf (under_in image i.0) (enclosed Bind Local Semi (parts_in image index i.0))) }
@@ -546,6 +566,7 @@ fn binds(ops: &mut [u32], cells: &mut [u32; 8], image: &[u8], index: &[u32], i: 
 
 // The one bind of a local statement.
 #[cycle(args_binds_body_child_comp_each_expr_items_kids_list_local_lone_node_one_part_piece_row_specs_stmt_stmts_values)]
+#[cycle(printers)]
 fn lone(ops: &mut [u32], cells: &mut [u32; 8], image: &[u8], index: &[u32], i: Element, z: Bounds)
     requires within { Within image.now index.now i.0 z }
     requires whole { Whole (read_at image.now index.now Bind z none) }

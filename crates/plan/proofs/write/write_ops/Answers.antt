@@ -12,7 +12,9 @@ loop-i-init c = (refl, writing_none _ _ _ _ _ c.no_size-p.ensures c.requires.fal
 
 pub write_op-p-requires : goal.write_op-p-requires
 unfolding words flatten
-write_op-p-requires c = (c.loop-i.invariant.0, writing-fits c.loop-i.invariant.1 c.loop-i-test.true)
+write_op-p-requires c =
+    let r = writing-fits c.loop-i.invariant.1 c.loop-i-test.true in
+    record { all_value = c.loop-i.invariant.0; listed_value = r.0; p_value = r.1 }
 
 pub loop-i-preserved : goal.loop-i-preserved
 unfolding words flatten
