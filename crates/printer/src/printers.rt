@@ -41,7 +41,6 @@ use tree::class::{Class, is, kinds_of};
 use tree::{Found, is_nothing};
 
 // Element i.
-#[cycle(args_binds_body_child_comp_each_expr_items_kids_list_local_lone_node_one_part_piece_row_specs_stmt_stmts_values)]
 #[cycle(printers)]
 fn node(ops: &mut [u32], cells: &mut [u32; 8], image: &[u8], index: &[u32], i: Element)
     requires { At image.now index.now i.0 }
@@ -65,7 +64,6 @@ fn node(ops: &mut [u32], cells: &mut [u32; 8], image: &[u8], index: &[u32], i: E
 }
 
 // A node with a fixed layout: the pieces of its row.
-#[cycle(args_binds_body_child_comp_each_expr_items_kids_list_local_lone_node_one_part_piece_row_specs_stmt_stmts_values)]
 #[cycle(printers)]
 fn row(ops: &mut [u32], cells: &mut [u32; 8], image: &[u8], index: &[u32], i: Element)
     requires at { At image.now index.now i.0 }
@@ -83,7 +81,6 @@ fn row(ops: &mut [u32], cells: &mut [u32; 8], image: &[u8], index: &[u32], i: El
 }
 
 // A piece of the row of element i, whose parts have the marks m.
-#[cycle(args_binds_body_child_comp_each_expr_items_kids_list_local_lone_node_one_part_piece_row_specs_stmt_stmts_values)]
 #[cycle(printers)]
 fn piece(
     ops: &mut [u32],
@@ -116,7 +113,6 @@ fn piece(
 }
 
 // A part of element i, or the text that says what is missing.
-#[cycle(args_binds_body_child_comp_each_expr_items_kids_list_local_lone_node_one_part_piece_row_specs_stmt_stmts_values)]
 #[cycle(printers)]
 pub fn part(
     ops: &mut [u32],
@@ -139,7 +135,6 @@ pub fn part(
 }
 
 // All parts of a class of element i.
-#[cycle(args_binds_body_child_comp_each_expr_items_kids_list_local_lone_node_one_part_piece_row_specs_stmt_stmts_values)]
 #[cycle(printers)]
 fn each(ops: &mut [u32], cells: &mut [u32; 8], image: &[u8], index: &[u32], i: Element, x: Entry)
     requires at { At image.now index.now i.0 }
@@ -156,7 +151,6 @@ fn each(ops: &mut [u32], cells: &mut [u32; 8], image: &[u8], index: &[u32], i: E
 }
 
 // Element j under element i, if it is of the class.
-#[cycle(args_binds_body_child_comp_each_expr_items_kids_list_local_lone_node_one_part_piece_row_specs_stmt_stmts_values)]
 #[cycle(printers)]
 fn one(
     ops: &mut [u32],
@@ -181,7 +175,6 @@ fn one(
 }
 
 // An expression: statements, the expression at its base, suffixes.
-#[cycle(args_binds_body_child_comp_each_expr_items_kids_list_local_lone_node_one_part_piece_row_specs_stmt_stmts_values)]
 #[cycle(printers)]
 fn expr(ops: &mut [u32], cells: &mut [u32; 8], image: &[u8], index: &[u32], i: Element)
     requires { At image.now index.now i.0 }
@@ -198,7 +191,6 @@ fn expr(ops: &mut [u32], cells: &mut [u32; 8], image: &[u8], index: &[u32], i: E
 }
 
 // The statements of a reading of element i, with the comments that are kept. Most readings have no element.
-#[cycle(args_binds_body_child_comp_each_expr_items_kids_list_local_lone_node_one_part_piece_row_specs_stmt_stmts_values)]
 #[cycle(printers)]
 fn stmts(ops: &mut [u32], cells: &mut [u32; 8], image: &[u8], index: &[u32], i: Element, z: Bounds)
     requires { Within image.now index.now i.0 z }
@@ -224,7 +216,6 @@ fn stmts(ops: &mut [u32], cells: &mut [u32; 8], image: &[u8], index: &[u32], i: 
 }
 
 // Statement j of element i, with the gaps before and behind it.
-#[cycle(args_binds_body_child_comp_each_expr_items_kids_list_local_lone_node_one_part_piece_row_specs_stmt_stmts_values)]
 #[cycle(printers)]
 fn stmt(
     ops: &mut [u32],
@@ -247,7 +238,6 @@ fn stmt(
 }
 
 // The suffixes of a reading of element i, without their comments. Most readings have no element.
-#[cycle(args_binds_body_child_comp_each_expr_items_kids_list_local_lone_node_one_part_piece_row_specs_stmt_stmts_values)]
 #[cycle(printers)]
 fn values(ops: &mut [u32], cells: &mut [u32; 8], image: &[u8], index: &[u32], i: Element, z: Bounds)
     requires { Within image.now index.now i.0 z }
@@ -270,7 +260,6 @@ fn values(ops: &mut [u32], cells: &mut [u32; 8], image: &[u8], index: &[u32], i:
 }
 
 // The children of a list of element i, from a gap on.
-#[cycle(args_binds_body_child_comp_each_expr_items_kids_list_local_lone_node_one_part_piece_row_specs_stmt_stmts_values)]
 #[cycle(printers)]
 fn kids(
     ops: &mut [u32],
@@ -298,7 +287,6 @@ fn kids(
 }
 
 // The children of a reading of element i, with their comments.
-#[cycle(args_binds_body_child_comp_each_expr_items_kids_list_local_lone_node_one_part_piece_row_specs_stmt_stmts_values)]
 #[cycle(printers)]
 fn items(
     ops: &mut [u32],
@@ -321,7 +309,6 @@ fn items(
 }
 
 // Child j of element i, with the gaps before and behind it.
-#[cycle(args_binds_body_child_comp_each_expr_items_kids_list_local_lone_node_one_part_piece_row_specs_stmt_stmts_values)]
 #[cycle(printers)]
 fn child(
     ops: &mut [u32],
@@ -346,7 +333,6 @@ fn child(
 }
 
 // An array, or the members of an object.
-#[cycle(args_binds_body_child_comp_each_expr_items_kids_list_local_lone_node_one_part_piece_row_specs_stmt_stmts_values)]
 #[cycle(printers)]
 fn list(ops: &mut [u32], cells: &mut [u32; 8], image: &[u8], index: &[u32], i: Element, l: ListKind)
     requires { At image.now index.now i.0 }
@@ -372,7 +358,6 @@ fn list(ops: &mut [u32], cells: &mut [u32; 8], image: &[u8], index: &[u32], i: E
 }
 
 // The arguments of a call.
-#[cycle(args_binds_body_child_comp_each_expr_items_kids_list_local_lone_node_one_part_piece_row_specs_stmt_stmts_values)]
 #[cycle(printers)]
 fn args(ops: &mut [u32], cells: &mut [u32; 8], image: &[u8], index: &[u32], i: Element)
     requires { At image.now index.now i.0 }
@@ -402,7 +387,6 @@ fn args(ops: &mut [u32], cells: &mut [u32; 8], image: &[u8], index: &[u32], i: E
 }
 
 // An object comprehension: the reading of its members.
-#[cycle(args_binds_body_child_comp_each_expr_items_kids_list_local_lone_node_one_part_piece_row_specs_stmt_stmts_values)]
 #[cycle(printers)]
 fn comp(ops: &mut [u32], cells: &mut [u32; 8], image: &[u8], index: &[u32], i: Element)
     requires { At image.now index.now i.0 }
@@ -425,7 +409,6 @@ fn comp(ops: &mut [u32], cells: &mut [u32; 8], image: &[u8], index: &[u32], i: E
 }
 
 // An object comprehension from the reading of its members: the reading of its CompSpecs, and both printed.
-#[cycle(args_binds_body_child_comp_each_expr_items_kids_list_local_lone_node_one_part_piece_row_specs_stmt_stmts_values)]
 #[cycle(printers)]
 fn body(
     ops: &mut [u32],
@@ -469,7 +452,6 @@ fn body(
 }
 
 // The CompSpecs of an object comprehension; the trivia behind its members stands before the first.
-#[cycle(args_binds_body_child_comp_each_expr_items_kids_list_local_lone_node_one_part_piece_row_specs_stmt_stmts_values)]
 #[cycle(printers)]
 fn specs(
     ops: &mut [u32],
@@ -521,7 +503,6 @@ fn specs(
 }
 
 // A local statement.
-#[cycle(args_binds_body_child_comp_each_expr_items_kids_list_local_lone_node_one_part_piece_row_specs_stmt_stmts_values)]
 #[cycle(printers)]
 fn local(ops: &mut [u32], cells: &mut [u32; 8], image: &[u8], index: &[u32], i: Element)
     requires { At image.now index.now i.0 }
@@ -533,7 +514,6 @@ fn local(ops: &mut [u32], cells: &mut [u32; 8], image: &[u8], index: &[u32], i: 
 }
 
 // The binds of a local statement.
-#[cycle(args_binds_body_child_comp_each_expr_items_kids_list_local_lone_node_one_part_piece_row_specs_stmt_stmts_values)]
 #[cycle(printers)]
 fn binds(ops: &mut [u32], cells: &mut [u32; 8], image: &[u8], index: &[u32], i: Element)
     requires { At image.now index.now i.0 }
@@ -565,7 +545,6 @@ fn binds(ops: &mut [u32], cells: &mut [u32; 8], image: &[u8], index: &[u32], i: 
 }
 
 // The one bind of a local statement.
-#[cycle(args_binds_body_child_comp_each_expr_items_kids_list_local_lone_node_one_part_piece_row_specs_stmt_stmts_values)]
 #[cycle(printers)]
 fn lone(ops: &mut [u32], cells: &mut [u32; 8], image: &[u8], index: &[u32], i: Element, z: Bounds)
     requires within { Within image.now index.now i.0 z }

@@ -9,29 +9,23 @@ index-requires c =
 pub plan_source-requires : goal.plan_source-requires
 plan_source-requires c = c.index.ensures.indexed
 
-pub shape_of-table-then-is_stopped : goal.shape_of-table-then-is_stopped
-shape_of-table-then-is_stopped c = c.index.ensures.sized
+-- dropped? same-length: λ c. c.before.before.before.before.before.before.before.before.before.before.before.before.before.before.index.ensures.sized
 
-pub shape_of-ops-then-is_stopped : goal.shape_of-ops-then-is_stopped
-shape_of-ops-then-is_stopped c = c.plan_source.ensures.same_ops
+-- dropped? same-length-2: λ c. c.before.before.before.before.before.before.plan-source.ensures.same_ops
 
 pub returns-then-is_stopped : goal.returns-then-is_stopped
 returns-then-is_stopped c = foresees-stop c.requires (rw c.set_mode.ensures at c.plan_source.ensures) c.is_stopped.ensures.cells_len c.is_stopped.ensures.value c.if-is_stopped.true c.stopped_at.ensures
 
-pub shape_of-table-then-is_going-ops : goal.shape_of-table-then-is_going-ops
-shape_of-table-then-is_going-ops c = c.index.ensures.sized
+-- dropped? same-length-3: λ c. c.before.before.before.before.before.before.before.before.before.before.before.before.before.before.before.before.before.index.ensures.sized
 
-pub shape_of-ops-then-is_going-ops : goal.shape_of-ops-then-is_going-ops
-shape_of-ops-then-is_going-ops c = c.plan_source.ensures.same_ops
+-- dropped? same-length-4: λ c. c.before.before.before.before.before.before.before.before.before.plan-source.ensures.same_ops
 
 pub returns-then-is_going-ops : goal.returns-then-is_going-ops
 returns-then-is_going-ops c = foresees-full c.requires (rw c.set_mode.ensures at c.plan_source.ensures) c.is_stopped.ensures.cells_len c.is_stopped.ensures.value c.if-is_stopped.false c.is_going.ensures c.operations-n.ensures c.if-is_going-ops.true
 
-pub shape_of-table : goal.shape_of-table
-shape_of-table c = c.index.ensures.sized
+-- dropped? same-length-5: λ c. c.before.before.before.before.before.before.before.before.before.before.before.before.before.before.before.before.before.before.before.index.ensures.sized
 
-pub shape_of-ops : goal.shape_of-ops
-shape_of-ops c = c.plan_source.ensures.same_ops
+-- dropped? same-length-6: λ c. c.before.before.before.before.before.before.before.before.before.before.before.plan-source.ensures.same_ops
 
 pub returns : goal.returns
 returns c = foresees-all c.requires (rw c.set_mode.ensures at c.plan_source.ensures) c.is_stopped.ensures.cells_len c.is_stopped.ensures.value c.if-is_stopped.false c.is_going.ensures c.operations-n.ensures c.if-is_going-ops.false refl c.next_run.ensures

@@ -11,11 +11,9 @@ write_ops-p-requires c =
 pub counts_with-requires : goal.counts_with-requires
 counts_with-requires c = marks-fit c.requires
 
-pub shape_of-records-then-listed-is_ample : goal.shape_of-records-then-listed-is_ample
-shape_of-records-then-listed-is_ample c = (puts-same c.write_ops-p.ensures).0
+-- dropped? same-length: λ c. (puts-same c.before.before.before.before.before.write-ops.ensures).0
 
-pub shape_of-texts-then-listed-is_ample : goal.shape_of-texts-then-listed-is_ample
-shape_of-texts-then-listed-is_ample c = (puts-same c.write_ops-p.ensures).1
+-- dropped? same-length-2: λ c. (puts-same c.before.before.before.before.before.write-ops.ensures).1
 
 pub returns-then-listed-is_ample : goal.returns-then-listed-is_ample
 returns-then-listed-is_ample c = prints-ample _ _ c.write_ops-p.result c.requires c.is_ample.ensures c.if-listed-is_ample.true c.write_ops-p.ensures c.counts_with.ensures _
@@ -37,20 +35,16 @@ write_ops-requires c =
 pub write_listing-requires : goal.write_listing-requires
 write_listing-requires c = tells _ _ c.args.listing.now c.args.wanted.listed c.count_ops-p.result c.requires c.count_ops-p.ensures c.counts_with-counts.ensures c.listing_length-bytes.ensures c.fit-f.ensures c.in_default.is c.write_ops.ensures
 
-pub shape_of-records-then-listed : goal.shape_of-records-then-listed
-shape_of-records-then-listed c = (puts-same c.write_ops.ensures).0
+-- dropped? same-length-3: λ c. (puts-same c.before.before.before.before.before.before.before.before.before.before.before.write-ops2.ensures).0
 
-pub shape_of-texts-then-listed : goal.shape_of-texts-then-listed
-shape_of-texts-then-listed c = (puts-same c.write_ops.ensures).1
+-- dropped? same-length-4: λ c. (puts-same c.before.before.before.before.before.before.before.before.before.before.before.write-ops2.ensures).1
 
 pub returns-then-listed : goal.returns-then-listed
 returns-then-listed c = lists _ _ _ c.args.wanted.listed c.count_ops-p.result c.requires c.count_ops-p.ensures c.counts_with-counts.ensures c.listing_length-bytes.ensures c.fit-f.ensures c.in_default.is c.write_ops.ensures c.if-listed.true c.write_listing.ensures
 
-pub shape_of-records-else-listed : goal.shape_of-records-else-listed
-shape_of-records-else-listed c = (puts-same c.write_ops.ensures).0
+-- dropped? same-length-6: λ c. (puts-same c.before.before.before.before.before.write-ops2.ensures).0
 
-pub shape_of-texts-else-listed : goal.shape_of-texts-else-listed
-shape_of-texts-else-listed c = (puts-same c.write_ops.ensures).1
+-- dropped? same-length-7: λ c. (puts-same c.before.before.before.before.before.write-ops2.ensures).1
 
 pub returns-else-listed : goal.returns-else-listed
 returns-else-listed c = prints _ _ _ c.args.wanted.listed c.count_ops-p.result c.requires c.count_ops-p.ensures c.counts_with-counts.ensures c.listing_length-bytes.ensures c.fit-f.ensures c.in_default.is c.write_ops.ensures c.if-listed.false

@@ -2,7 +2,8 @@ use Rattle.printer.proofs.Looking.{nth-found}
 use Rattle.printer.proofs.Under.{at-region}
 use Rattle.printer.proofs.look.first_of.Goals as goal
 
--- dropped? nth-of-requires: λ c κs. search at-region
+pub first_from-requires : goal.first_from-requires
+first_from-requires c = search at-region
 
 pub returns : goal.returns
 returns c = search nth-found
