@@ -12,4 +12,4 @@ pub returns-in-Prints : goal.returns-in-Prints
 returns-in-Prints c = answered-by c.serve_planned.ensures
 
 pub returns-in-Full : goal.returns-in-Full
-returns-in-Full c = filled-by (λ l. c.plan_image-outlook.ensures.fills c.in-Full.is (omega (arith, l, c.plan_image-outlook.auto.1.1.0)))
+returns-in-Full c = filled-by (λ l. c.plan_image-outlook.ensures.fills c.in-Full.is (omega (arith, l, c.plan_image-outlook.auto.ops)))
