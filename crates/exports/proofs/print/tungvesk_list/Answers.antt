@@ -10,7 +10,12 @@ returns-in_default c = rw (unknown c.mode_with-chosen.ensures c.in_default.is) (
 pub returns : goal.returns
 unfolding by_mode
 returns c =
-    let e = known c.mode_with-chosen.ensures c.in
-    let r = -Known.is in
-    rw (e, ← c.list_items.ensures.result_value, ← c.report_listed-l.ensures.answered, ← c.report_listed-l.ensures.listed) (refl, (refl, (c.list_items.ensures.records_after, (c.list_items.ensures.texts_after, c.list_items.ensures.listing_after)))) in
-    record { value = r.0; counts_after = r.1.0; records_after = r.1.1.0; texts_after = r.1.1.1.0; listing_after = r.1.1.1.1 }
+    let e = known c.mode_with-chosen.ensures c.in-Known.is in
+    rw (e, ← c.list_items.ensures.result_value, ← c.report_listed-l.ensures.answered, ← c.report_listed-l.ensures.listed)
+    (record {
+      value = refl;
+      counts_after = refl;
+      records_after = c.list_items.ensures.records_after;
+      texts_after = c.list_items.ensures.texts_after;
+      listing_after = c.list_items.ensures.listing_after;
+    })
