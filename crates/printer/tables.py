@@ -17,7 +17,7 @@ from pathlib import Path
 
 HERE = Path(__file__).resolve().parent
 LAYOUT, ROWS, CODE = (HERE / path for path in ("specs/Layout.antt", "specs/Rows.antt", "src/rows.rt"))
-TEXTS, WORDS, STARTS = (HERE.parent / "plan" / path for path in ("specs/Words.antt", "src/words.rt", "proofs/words/start_of/Proof.antt"))
+TEXTS, WORDS, STARTS = (HERE.parent / "plan" / path for path in ("specs/Words.antt", "src/words.rt", "proofs/words/start_of/Answers.antt"))
 CLASS, KIND = (HERE.parent / path for path in ("tree/src/class.rt", "numbers/src/kind.rt"))
 
 # The texts of the constants of src/words.rt; number 0 is no text.
@@ -86,7 +86,7 @@ class Tables:
         return self.number(self.words, text.strip('"'), 0)
 
     def want(self, term):
-        place = {"firstOf": 0, "secondOf": 1}[term[0]]
+        place = {"first_of": 0, "second_of": 1}[term[0]]
         return self.number(self.wants, (term[1].removeprefix("Class."), place), 1)
 
     def what(self, term):
@@ -99,9 +99,9 @@ class Tables:
         if head == "part":
             return [PART, self.want(rest[0]), self.word(rest[1])]
         if head == "opt":
-            return [PART, self.want(("firstOf", rest[0])), 0]
+            return [PART, self.want(("first_of", rest[0])), 0]
         if head == "each":
-            return [EACH_ENDED if rest[2] == "true" else EACH, self.want(("firstOf", rest[0])), self.word(rest[1])]
+            return [EACH_ENDED if rest[2] == "true" else EACH, self.want(("first_of", rest[0])), self.word(rest[1])]
         return [PLUS, 0, 0]
 
     def piece(self, term):
@@ -112,7 +112,7 @@ class Tables:
         if head == "t":
             return [0, 0, 0, *self.what(("txt", rest[0]))]
         if head == "one":
-            return [0, 0, 0, *self.what(("part", ("firstOf", rest[0]), rest[1]))]
+            return [0, 0, 0, *self.what(("part", ("first_of", rest[0]), rest[1]))]
         if head == "maybe":
             return [0, 0, 0, *self.what(("opt", rest[0]))]
         if head == "always":
@@ -149,11 +149,11 @@ def replaced(text, pattern, new):
 
 
 def counted(text, name, members):
-    return replaced(text, rf"^{name}Count = (\d+)$", str(len(members)))
+    return replaced(text, rf"^{name}_count = (\d+)$", str(len(members)))
 
 
 def rows_definition(tables, text):
-    wants = [f"{'secondOf' if place else 'firstOf'} Class.{c}" for c, place in tables.wants]
+    wants = [f"{'second_of' if place else 'first_of'} Class.{c}" for c, place in tables.wants]
     text = replaced(text, r"^wants =(.*?)\n\n", definition_lines(wants))
     return counted(counted(text, "want", wants), "piece", tables.pieces)
 
@@ -202,10 +202,10 @@ def marks_entries(tables):
 # The tables of src/rows.rt: the function that has one, its entries, and the laws that an entry is that of its number, by computed
 # tests, and of a number that has none.
 TABLES = (
-    ("row_code", row_entries, "rowed {} {} refl refl", "no-arm {} (c .before .pre) (c .match .rest)"),
-    ("piece_code", piece_entries, "coded {} {} refl refl refl", "no-arm {} (c .before .pre) (c .match .rest)"),
-    ("want_code", want_entries, "want-coded {} {} refl refl", "no-arm {} (c .before .pre) (c .match .rest)"),
-    ("marks_of", marks_entries, "marks-coded {} {} refl", "marks-beyond {0} (behind-all {0} _ (c .match .rest)) refl"),
+    ("row_code", row_entries, "rowed {} {} refl refl", "no_arm {} c.requires {}"),
+    ("piece_code", piece_entries, "coded {} {} refl refl refl", "no_arm {} c.requires {}"),
+    ("want_code", want_entries, "want-coded {} {} refl refl", "no_arm {} c.requires {}"),
+    ("marks_of", marks_entries, "marks-coded {} {} refl", "marks-beyond {0} (behind-all {0} _ {1}) refl"),
 )
 
 
@@ -226,11 +226,13 @@ def rows_code(tables, text):
 
 
 def arms_proof(entries, law, last):
-    """A line for each entry of a table, and one for a number that has none."""
+    """An answer for each entry of a table, and one for a number that has none."""
     def made(tables, text):
         numbers = entries(tables)
-        lines = [law.format(n, f"(c .match .keys{i})") for i, n in enumerate(numbers, 1)] + [last.format(len(numbers))]
-        return replaced(text, r"\(tie\.spec\n(.*?)    \)\n", "".join(f"    (λ c. {line})\n" for line in lines))
+        head, unfolding = text[:text.index("pub returns-")], re.search(r"^unfolding .*$", text, re.M)[0]
+        answers = {f"in-{n}": law.format(n, f"c.in-{n}.is") for n in numbers}
+        answers["in_default"] = last.format(len(numbers), "c.in_default.in_default-own.rest")
+        return head + "\n".join(f"pub returns-{arm} : goal.returns-{arm}\n{unfolding}\nreturns-{arm} c = {answer}\n" for arm, answer in answers.items())
     return made
 
 
@@ -245,8 +247,8 @@ def words_code(tables, text):
 def main():
     tables, check, status = Tables(LAYOUT.read_text()), "--check" in sys.argv, 0
     files = [(ROWS, rows_definition), (CODE, rows_code), (TEXTS, words_definition), (WORDS, words_code)]
-    files += [(STARTS, arms_proof(word_starts, "starts {} refl {}", "no-arm {} (at-most (c .before .pre)) (c .match .rest)"))]
-    files += [(HERE / f"proofs/rows/{name}/Proof.antt", arms_proof(entries, law, last)) for name, entries, law, last in TABLES]
+    files += [(STARTS, arms_proof(word_starts, "starts {} refl {}", "no_arm {} (at_most c.requires) {}"))]
+    files += [(HERE / f"proofs/rows/{name}/Answers.antt", arms_proof(entries, law, last)) for name, entries, law, last in TABLES]
     for path, made in files:
         old = path.read_text()
         new = made(tables, old)

@@ -11,7 +11,6 @@ use borrow.Author.Tests.{eq-eqb, ne_eqb, eqb-true}
 use Rattle.text.specs.Basic.{any, or_else}
 use Rattle.tree.specs.Tree.{Part}
 use Rattle.tree.specs.declared.class.Kinds.{Kinds}
-use Rattle.tree.specs.declared.class.Class.TheVariants as Class
 use Rattle.tree.specs.Class.{one_of, nth_of, last_of, number_of}
 use Rattle.tree.specs.Index.{Table, Region, parts_from, end_at}
 use Rattle.tree.proofs.Siblings.{parts_next, parts-over}

@@ -9,7 +9,6 @@ use Rattle.tree.specs.Class.{is, kinds}
 use Rattle.children.specs.Reading.{Child, Reading, foreign, Pass, finished, child_from, pass, step, start}
 use Rattle.children.specs.Gaps.{Gap, Gaps, breaks, stopped, ending, widen, gaps, turn, trivia_turn, other_turn}
 use Rattle.tree.specs.declared.class.Class.{Class}
-use Rattle.tree.specs.declared.class.Class.TheVariants as Class
 use Rattle.children.specs.Reading as R
 use Rattle.children.specs.Gaps as G
 

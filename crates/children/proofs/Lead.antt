@@ -11,9 +11,7 @@ use Rattle.children.specs.Gaps.{Gaps, widen, gaps, turn, trivia_turn, other_turn
 use Rattle.children.proofs.Glue.{pass-gaps}
 use Rattle.children.specs.Whole.{read_from}
 use Rattle.tree.specs.declared.class.Class.{Class}
-use Rattle.tree.specs.declared.class.Class.TheVariants as Class
 use Rattle.children.specs.Reading as R
-use Rattle.children.specs.Gaps as G
 use Rattle.children.proofs.Whole.{glued-from, preceded-none}
 use Rattle.children.specs.Lead.{leads, child_after, reading_after}
 use Rattle.children.proofs.Widening.{widen_none, widen-both}

@@ -11,7 +11,6 @@ use Rattle.tree.specs.Tree.{Part}
 use Rattle.children.specs.Gaps.{Go, Turn, turn, code, widen, gaps, end_by, space_in}
 use Rattle.tree.specs.Index.{Table, Region, parts_from, part_at, kind_at, end_at}
 use Rattle.children.specs.declared.gap.End.{End}
-use Rattle.children.specs.declared.gap.End.TheVariants as End
 use Rattle.children.specs.declared.gap.Span.{Span}
 use Rattle.children.specs.declared.tally.Tally.{Tally}
 use Rattle.children.specs.Stretch.{Jumps, here, waiting_in}

@@ -12,7 +12,6 @@ use Rattle.children.specs.Reading.{is_note}
 use Rattle.children.specs.Gaps.{Go, Turn, turn, code, go_code, trivia_turn, other_turn, breaks, widen, gaps, turned, started_by, had_by, follows_by, started_after, had_after, adds_inline, adds_waiting, ending, end_by, space_in}
 use Rattle.tree.specs.Index.{Table, Region, parts_from, part_at, kind_at, end_at}
 use Rattle.children.specs.declared.gap.End.{End}
-use Rattle.children.specs.declared.gap.End.TheVariants as End
 use Rattle.children.specs.declared.gap.Span.{Span}
 use Rattle.children.specs.declared.tally.Tally.{Tally}
 use Rattle.children.specs.Stretch.{Jumps, here, inline_in, waiting_in}

@@ -8,7 +8,6 @@ use native.Mathlib.Decide.{dec_lt}
 use lib.Dec.{leb, eqb}
 use borrow.Author.Tests.{le-leb, lt-leb, leb-true, leb-false}
 use Rattle.tree.specs.Tree.{Part}
-use Rattle.tree.specs.declared.class.Class.TheVariants as Class
 use Rattle.tree.specs.Class.{kinds, one_of}
 use Rattle.tree.specs.Index.{end_at, Table, Region}
 use Rattle.children.specs.Reading.{is_note}

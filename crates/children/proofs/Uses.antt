@@ -7,7 +7,6 @@ use Prim.Native.Nat.{ℕ}
 use Rattle.tree.specs.declared.class.Kinds.{Kinds}
 use Rattle.tree.specs.Class.{kinds}
 use Rattle.children.specs.declared.gap.End.{End}
-use Rattle.children.specs.declared.gap.End.TheVariants as End
 use Rattle.children.specs.declared.gap.Span.{Span}
 use Rattle.children.specs.declared.survey.Outline.{Outline}
 use Rattle.children.specs.Reading.{pass, start}

@@ -15,7 +15,6 @@ use Rattle.children.specs.Reading.{Child, Reading, foreign, read, pass, start, a
 use Rattle.children.specs.Gaps.{Gaps, stopped, ending, widen, gaps, turn, trivia_turn, other_turn, newlines_at, Sums, foreign_at, sums, gap_sums}
 use Rattle.children.proofs.Glue.{glued, passing, start-gaps}
 use Rattle.tree.specs.declared.class.Class.{Class}
-use Rattle.tree.specs.declared.class.Class.TheVariants as Class
 use Rattle.children.specs.Gaps as G
 use Rattle.children.specs.Whole.{child_at, closed_by, preceded, read_from, reading_of, sums_of}
 

@@ -2,8 +2,7 @@
 use mathlib.Core.Path.{◌≡◌, refl}
 use mathlib.Core.List.{List, [], ◌++◌, append_assoc}
 use Rattle.tree.specs.Tree.{Part}
-use Rattle.children.specs.Gaps.{Gaps, widen, inline, child, stopped, ending}
-use Rattle.tree.specs.declared.class.Class.TheVariants as Class
+use Rattle.children.specs.Gaps.{Gaps, widen, child, stopped, ending}
 
 -- nothing more in front
 pub widen_none : (gs : Gaps) → widen [] [] gs ≡ gs

@@ -5,7 +5,6 @@ use Rattle.text.specs.Basic.{any}
 use Rattle.text.specs.Lent.{Lent}
 use Rattle.tree.specs.Tree.{Part}
 use Rattle.tree.specs.declared.class.Class.{Class}
-use Rattle.tree.specs.declared.class.Class.TheVariants as Class
 use Rattle.tree.specs.Class.{one_of, of_kind, number_of, all_of}
 use Rattle.tree.specs.Answer.{found}
 use Rattle.tree.specs.Index.{Region, parts_from, end_at}

@@ -5,7 +5,6 @@ use Rattle.tree.specs.Tree.{Part}
 use Rattle.tree.specs.declared.class.Kinds.{Kinds}
 use Rattle.tree.specs.Class.{is, one_of, of_kind}
 use Rattle.children.specs.declared.gap.End.{End}
-use Rattle.children.specs.declared.gap.End.TheVariants as End
 use Rattle.children.specs.Reading.{newlines_before, newlines_back}
 use Rattle.tree.specs.declared.class.Class.TheVariants as Class
 

@@ -12,8 +12,6 @@ use Rattle.children.specs.Gaps.{Go, Turn, Gap, gap_of, bare, Gaps, stopped, endi
 use Rattle.tree.specs.Index.{Region, parts_from, part_at, end_at}
 use Rattle.children.specs.Spans.{Lies, gap_at, Outlines}
 use Rattle.children.specs.Whole.{read_from, ending_at, sums_of}
-use Rattle.tree.specs.declared.class.Class.TheVariants as Class
-use Rattle.children.specs.Reading as R
 use Rattle.children.specs.Gaps as G
 
 -- an error waits

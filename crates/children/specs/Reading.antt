@@ -5,7 +5,6 @@ use Rattle.text.specs.Basic.{is_nil, present, or_else, any, count}
 use Rattle.tree.specs.Tree.{Part}
 use Rattle.tree.specs.Class.{is, first, last}
 use Rattle.tree.specs.declared.class.Class.{Class}
-use Rattle.tree.specs.declared.class.Class.TheVariants as Class
 
 -- `Child`: blank_line is should_start_with_newline, many_lines is triggers_multiline.
 pub record Child : Type 0 where

@@ -3,8 +3,6 @@ use Rattle.std.specs.Prelude.{◌&&◌, List, [], ◌∷◌, ◌++◌, leb, leng
 use Rattle.tree.specs.Tree.{Part}
 use Rattle.children.specs.Reading.{Child, Ending, Reading, foreign, read, any_many_lines}
 use Rattle.children.specs.Gaps.{Gap, Gaps, stopped, ending, newlines_at, Sums, foreign_at, sums}
-use Rattle.tree.specs.declared.class.Class.TheVariants as Class
-use Rattle.children.specs.Gaps as G
 
 -- the child behind a gap, its own inline trivia not yet read
 abbrev pub child_at : Gap → Part → Child

@@ -20,7 +20,6 @@ use Rattle.comments.proofs.Every.{comment-all}
 use Rattle.tree.specs.Tree.{Forest, nil, tree, Part, texts, parts}
 use Rattle.tree.specs.Class.{is, nth, first, plus_of}
 use Rattle.tree.specs.declared.class.Class.{Class}
-use Rattle.tree.specs.declared.class.Class.TheVariants as Class
 use Rattle.children.specs.Reading
 use Rattle.plan.specs.Comments.{comments}
 use Rattle.printer.specs.Layout.{What, txt, bare, part, opt, each, plus, Piece, asked, layout}

@@ -20,7 +20,6 @@ use Rattle.items.proofs.Fits.{items_of}
 use Rattle.comments.specs.Comments.{Location, above_item, itemInline, endOfItems, comment}
 use Rattle.tree.specs.Tree.{Element, Forest, nil, tree, Part, texts, parts}
 use Rattle.tree.specs.declared.class.Class.{Class}
-use Rattle.tree.specs.declared.class.Class.TheVariants as Class
 use Rattle.tree.specs.Class.{is, kinds, one_of, of_kind, nth, first}
 use Rattle.children.specs.Reading
 use Rattle.children.specs.Reading.{Child, Ending, Around}

@@ -11,7 +11,6 @@ use Rattle.text.specs.Basic.{ascii, same_bytes, sum}
 use Rattle.text.proofs.Lists.{and_true}
 use Rattle.tree.specs.Tree.{Part}
 use Rattle.tree.specs.declared.class.Class.{Class}
-use Rattle.tree.specs.declared.class.Class.TheVariants as Class
 use Rattle.tree.specs.Class.{is, of_kind, nth_of, nth, is_plus, plus_of}
 use Rattle.children.specs.Reading.{is_note}
 use Rattle.formatter.proofs.Tests.{of_kind-far, every, everywhere}

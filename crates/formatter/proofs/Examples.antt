@@ -30,7 +30,7 @@ use Rattle.listing.specs.Listing.{head_line, listing}
 use Rattle.listing.specs.Examples.{one_items}
 use Rattle.formatter.specs.Answer.{Verdict, turned_away, printed, from_printing, from_tests, verdict, with_room, with_listing, ruling}
 use Rattle.formatter.specs.Program.{judged, printed_of, response}
-use Rattle.formatter.specs.Examples.{Example, result, same_items, gives, passes, examples, InBoth, image_of, passes_both, in_both, comment, one_image, one_listing}
+use Rattle.formatter.specs.Examples.{Example, result, same_items, gives, passes, examples, InBoth, image_of, passes_both, in_both, one_image, one_listing}
 use Rattle.formatter.proofs.Responses.{blank-long}
 
 computed : all passes examples ≡ true

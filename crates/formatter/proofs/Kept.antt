@@ -12,7 +12,6 @@ use Rattle.items.specs.Item.{Item, Out, stop, ok, in_mode, Print, after, next, â
 use Rattle.comments.specs.Comments.{Location, above_item, endOfItems, comment, single_line, multi_line, block_of, on_one_line}
 use Rattle.tree.specs.Tree.{Part}
 use Rattle.tree.specs.declared.class.Class.{Class}
-use Rattle.tree.specs.declared.class.Class.TheVariants as Class
 use Rattle.tree.specs.Class.{is, kinds, one_of, of_kind, all_of}
 use Rattle.children.specs.Reading.{Child, Ending, Reading, foreign, read, Pass, closed, child_from, wait, add_inline, inline_trivia, take_child, take_trivia, take_other, step, on, foreign_at, onward, pass, start, between, up_to}
 use Rattle.plan.specs.Comments.{comments}

@@ -1,5 +1,5 @@
 -- Document 01, 'Twelve kept examples', A to L in one list, and `[1]`, also from the bytes of its image to those of its listing. Document 02, Ask 1: trees in both modes.
-use Rattle.std.specs.Prelude.{Bool, false, ◌&&◌, ℕ, ◌*◌, ◌/◌, ◌%◌, length}
+use Rattle.std.specs.Prelude.{Bool, false, ◌&&◌, ℕ, ◌/◌, ◌%◌, length}
 use mathlib.Core.List.{List, [], ◌∷◌, ◌++◌, map, flatten}
 use Prim.Native.String.{String}
 use Rattle.text.specs.Basic.{ascii, same_bytes}
@@ -8,7 +8,6 @@ use Rattle.numbers.specs.declared.mode.Mode.TheVariants.{Plain, Keeping}
 use Rattle.items.specs.Records.{words, bytes}
 use Rattle.comments.specs.Comments
 use Rattle.comments.specs.Comments.{Location, above_item, itemInline}
-use Rattle.printer.specs.Print.{source}
 use Rattle.listing.specs.Examples.{one_items}
 use Rattle.formatter.specs.Answer.{Verdict, turned_away, printed, verdict}
 

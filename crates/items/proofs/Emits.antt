@@ -2,7 +2,7 @@
 use mathlib.Core.Path.{◌≡◌, refl, sym, ◌∙◌}
 use mathlib.Core.Bool.{Bool, true, false, cond, not, false≢true}
 use mathlib.Core.List.{List, [], ◌∷◌, append-nil}
-use Prim.Native.Nat.{ℕ, zero, suc, ◌+◌, ◌≤◌}
+use Prim.Native.Nat.{ℕ, zero, suc, ◌≤◌}
 use lib.Dec.{eqb}
 use borrow.Author.Tests.{eqb-true, eqb-false}
 use Rattle.text.proofs.Lists.{and_true}
@@ -14,8 +14,8 @@ use Rattle.items.specs.declared.Printed.TheVariants.{Done, Full}
 use Rattle.items.specs.declared.Signal.{Signal}
 use Rattle.items.specs.declared.Size.{Size}
 use Rattle.items.specs.Item.{Item, text, plain_item, signal, signal_kind}
-use Rattle.items.specs.Records.{record_of, bytes_of, words, bytes}
-use Rattle.items.specs.Machine.{State, full, reached, store, store_record, all_fit, sized, size_after, Puts, counted, printable, emitted, emit_all, printing, seen, held, Says}
+use Rattle.items.specs.Records.{bytes_of, words, bytes}
+use Rattle.items.specs.Machine.{State, full, reached, store, all_fit, sized, size_after, Puts, counted, printable, emitted, emit_all, printing, seen, held, Says}
 use Rattle.items.specs.Entry.{entry_of, plain_entry, text_entry, store_entry, line_of, InRange, continued, recorded}
 use Rattle.items.specs.Lines.{record_line, record_lines}
 use Rattle.items.specs.Names.{has_number, line_length}

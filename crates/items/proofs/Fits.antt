@@ -1,6 +1,6 @@
 -- Items whose numbers fit, put behind others, and what a printer of such items leaves.
 use mathlib.Core.Path.{◌≡◌, refl, sym, ap, ◌∙◌}
-use mathlib.Core.Bool.{Bool, true, false, cond, ◌&&◌}
+use mathlib.Core.Bool.{Bool, true, false, cond}
 use mathlib.Core.List.{List, [], ◌∷◌, ◌++◌, append_assoc, append-nil}
 use Prim.Native.Nat.{ℕ, suc, ◌+◌, ◌*◌, ◌≤◌, ◌<◌, ◌^◌}
 use native.Mathlib.Omega.{arith}
@@ -16,7 +16,7 @@ use Rattle.items.specs.declared.Size.{Size}
 use Rattle.items.specs.Item.{always, lines, Item, signal, text, mark, runEnd, again, if_test, Out, stop, ok, run as opening}
 use Rattle.items.specs.Lines.{record_line, record_lines}
 use Rattle.items.specs.Records.{record_of, bytes_of, words, bytes, overlaid, record_size}
-use Rattle.items.specs.Machine.{State, store, counted, fit, printable, all_fit, sized, no_size, Puts, emitted, emit_all, Outcome, full, reached, printing, seen, held, Says}
+use Rattle.items.specs.Machine.{State, store, counted, fit, printable, all_fit, sized, no_size, Puts, emitted, emit_all, full, reached, printing, seen, held, Says}
 use Rattle.text.proofs.Lists.{and_true}
 use Rattle.items.proofs.Decoding.{words-length}
 

@@ -1,12 +1,11 @@
 -- Items printed one after another, and printers' contracts composed.
-use mathlib.Core.Path.{◌≡◌, refl, sym, ap, ◌∙◌}
+use mathlib.Core.Path.{◌≡◌, refl, sym, ◌∙◌}
 use mathlib.Core.Bool.{Bool, true, false, cond}
 use mathlib.Core.List.{List, [], ◌∷◌, ◌++◌}
 use Prim.Native.Nat.{ℕ}
 use native.Mathlib.Omega.{arith}
 use Rattle.items.specs.declared.Printed.{Printed}
 use Rattle.items.specs.declared.Printed.TheVariants.{Done, Full}
-use Rattle.items.specs.declared.Size.{Size}
 use Rattle.items.specs.Item.{Item}
 use Rattle.items.specs.Machine.{State, Outcome, full, reached, printable, emitted, emit_all, printing, seen, Held, held, Says}
 

@@ -7,7 +7,6 @@ use native.Mathlib.Omega.{arith}
 use lib.Dec.{ltb}
 use borrow.Author.Tests.{le-ltb, ltb-true}
 use Rattle.text.specs.Basic.{all, All, ∅, ◌▹◌}
-use Rattle.text.proofs.Lists.{and_true}
 use Rattle.items.specs.declared.Entry.{Entry}
 use Rattle.items.specs.declared.Printed.TheVariants.{Done, Full}
 use Rattle.items.specs.declared.Printed.{Printed}

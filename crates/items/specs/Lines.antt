@@ -3,7 +3,7 @@ use Rattle.std.specs.Prelude.{cond, List, [], ◌∷◌, ◌++◌, ℕ, zero, su
 use Prim.Native.String.{String}
 use Rattle.text.specs.Basic.{ascii}
 use Rattle.text.specs.Words.{word_in}
-use Rattle.items.specs.Item.{always, lines, Item, signal, text, newline, tab, indent, outdent, mark, group, block, run, runEnd, again, if_test, signal_kind}
+use Rattle.items.specs.Item.{always, lines, Item, signal, text, mark, run, runEnd, again, if_test, signal_kind}
 
 -- the decimal digits of n, where it has at most d + 1 of them
 unfoldable pub digits : ℕ → ℕ → List ℕ

@@ -5,7 +5,7 @@ use mathlib.Core.Bool.{false≢true}
 use native.Mathlib.Omega.{arith}
 use borrow.Author.Tests.{not-true, not-false}
 use Rattle.text.specs.Basic.{is_nil, any}
-use Rattle.items.specs.Item.{Test, Item, Print, ◌⨟◌, none, says, say, lit, when}
+use Rattle.items.specs.Item.{Item, Print, none, says, when}
 use Rattle.comments.specs.Comments.{Location, comment}
 use Rattle.plan.specs.Comments.{comments}
 use Rattle.tree.specs.Tree.{Part}

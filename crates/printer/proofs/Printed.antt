@@ -13,7 +13,6 @@ use Rattle.plan.specs.Plans.{Held, next_run, Plans}
 use Rattle.plan.proofs.Laws.{by, ◌▸◌, numbers}
 use Rattle.tree.specs.Tree.{Part}
 use Rattle.tree.specs.declared.class.Class.{Class}
-use Rattle.tree.specs.declared.class.Class.TheVariants as Class
 use Rattle.tree.specs.Class.{first, last, number_of}
 use Rattle.tree.specs.Index.{end_at}
 use Rattle.children.specs.declared.between.Bounds.{Bounds}

@@ -13,7 +13,7 @@ use Rattle.tree.proofs.Children.{table}
 use Rattle.children.specs.declared.between.Bounds.{Bounds}
 use Rattle.children.specs.declared.gap.End.TheVariants as End
 use Rattle.children.specs.declared.gap.Span.{Span}
-use Rattle.children.specs.Reading.{Child, read}
+use Rattle.children.specs.Reading.{Child}
 use Rattle.children.specs.Stretch.{Stretch, here, jump}
 use Rattle.children.specs.Spans.{Spans, spanned}
 use Rattle.children.specs.Between.{Bounded}

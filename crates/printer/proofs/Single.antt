@@ -12,7 +12,6 @@ use Rattle.tree.specs.Class.{kinds}
 use Rattle.tree.specs.Index.{end_at, part_at, parts_from}
 use Rattle.children.specs.declared.between.Bounds.{Bounds}
 use Rattle.children.specs.declared.gap.End.{End}
-use Rattle.children.specs.declared.gap.End.TheVariants as End
 use Rattle.children.specs.declared.gap.Span.{Span}
 use Rattle.children.specs.Reading.{Child, Ending, Reading, foreign, read}
 use Rattle.plan.specs.Comments.{comments}

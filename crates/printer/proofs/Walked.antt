@@ -9,7 +9,6 @@ use Rattle.tree.specs.Tree.{Part}
 use Rattle.tree.specs.declared.class.Kinds.{Kinds}
 use Rattle.tree.specs.Index.{end_at, parts_from, part_at}
 use Rattle.children.specs.declared.gap.End.{End}
-use Rattle.children.specs.declared.gap.End.TheVariants as End
 use Rattle.children.specs.declared.gap.Span.{Span}
 use Rattle.children.specs.declared.survey.Outline.{Outline}
 use Rattle.children.specs.Reading.{Child, Ending, Reading, foreign, read, more, any_many_lines}

@@ -6,7 +6,6 @@ use Rattle.items.specs.declared.Signal.{Signal}
 use Rattle.items.specs.declared.Signal.TheVariants.{NewLine, StartIndent, FinishIndent}
 use Rattle.tree.specs.Tree.{Part}
 use Rattle.tree.specs.declared.class.Class.{Class}
-use Rattle.tree.specs.declared.class.Class.TheVariants as Class
 use Rattle.tree.specs.Class.{nth}
 
 -- The n-th part of a class.

@@ -8,7 +8,6 @@ use Rattle.printer.specs.Combine.{newline_if, either, only_if, grouped, comma, s
 use Rattle.comments.specs.Comments.{above_item, itemInline, endOfItems}
 use Rattle.tree.specs.Tree.{Forest, nil, tree, Part, texts, parts}
 use Rattle.tree.specs.declared.class.Class.{Class}
-use Rattle.tree.specs.declared.class.Class.TheVariants as Class
 use Rattle.tree.specs.Class.{is, nth, first, plus_of}
 use Rattle.plan.specs.Comments.{comments}
 use Rattle.children.specs.Reading.{Child, Ending, Reading, foreign, read, between, enclosed, comp_members, comp_specs, more, any_many_lines, is_empty, Around, foreign_at, trivia, trivia_before, trivia_after}

@@ -1,7 +1,6 @@
 -- What the numbers in the code's tables mean: wanted parts and pieces of rows.
 use Rattle.std.specs.Prelude.{◌≡◌, ℕ, ◌-◌, ◌/◌, ◌%◌, ◌^◌, ◌<◌, ◌≤◌, Bool, true, false, cond, not, ◌&&◌, ◌||◌, List, [], ◌∷◌, ◌++◌, map, take, drop, ◌==◌, nat_le, slice_index_or}
 use mathlib.Core.List.{flatten}
-use Prim.Native.String.{String}
 use Rattle.items.specs.declared.Signal.TheVariants.{NewLine, StartIndent, FinishIndent}
 use Rattle.text.specs.Basic.{any, is_nil}
 use Rattle.tree.specs.Tree.{Part}

@@ -4,7 +4,6 @@ use Rattle.items.specs.Item.{Print}
 use Rattle.tree.specs.Tree.{Forest, Part, count_n, elements_of, forest, texts, parts}
 use Rattle.tree.specs.Image.{kind_in, level_in, text_in}
 use Rattle.tree.specs.Index.{end_at, parts_from, Indexed, Child}
-use Rattle.tree.specs.declared.class.Class.TheVariants as Class
 use Rattle.printer.specs.Print.{element, prints}
 
 -- the children of element i

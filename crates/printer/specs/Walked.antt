@@ -10,7 +10,6 @@ use Rattle.children.specs.Gaps.{Gap, gap_of, newlines_at, Gaps}
 use Rattle.children.specs.Gaps as G
 use Rattle.children.specs.Spans.{gap_at}
 use Rattle.printer.specs.Combine.{newline_if}
-use Rattle.printer.specs.Print.{children}
 
 -- the first of some gaps
 abbrev pub front_of : Gaps → Gap

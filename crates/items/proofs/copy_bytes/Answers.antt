@@ -1,4 +1,3 @@
-use Prim.Native.Nat.{◌-◌}
 use native.Mathlib.Omega.{arith}
 use Rattle.items.proofs.Stores.{storing_none, storing_more, storing_all}
 use Rattle.items.proofs.copy_bytes.Goals as goal

@@ -1,4 +1,3 @@
-use Prim.Native.Nat.{◌-◌}
 use Rattle.items.proofs.Stores.{storing_none, storing_more, storing_all}
 use Rattle.items.proofs.put_bytes.Goals as goal
 

@@ -1,4 +1,3 @@
-use Prim.Native.Nat.{◌-◌}
 use Rattle.listing.proofs.Writing.{lines_none, lines_more, lines-all, lines-room}
 use Rattle.listing.proofs.Writes.{kept}
 use Rattle.listing.proofs.put_lines.Goals as goal

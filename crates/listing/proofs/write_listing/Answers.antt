@@ -1,6 +1,5 @@
 use native.Mathlib.Omega.{arith}
-use Rattle.items.specs.declared.Count.{Count}
-use Rattle.listing.proofs.Whole.{Ready, ready}
+use Rattle.listing.proofs.Whole.{ready}
 use Rattle.listing.proofs.Writes.{◌▸◌, by, kept, room-first, ◌⟫◌}
 use Rattle.listing.proofs.write_listing.Goals as goal
 

@@ -1,12 +1,8 @@
 use mathlib.Core.Path.{sym, ◌∙◌}
-use mathlib.Core.Bool.{false}
-use mathlib.Core.List.{List}
-use Prim.Native.Nat.{ℕ}
 use native.Mathlib.Omega.{arith}
-use lib.ListN.{drop}
-use Rattle.tree.specs.Refusal.{wrong_length, out_of_limits, tests}
+use Rattle.tree.specs.Refusal.{tests}
 use Rattle.tree.proofs.Accepted.{measured}
-use Rattle.tree.proofs.Verdict.{Left, left-all, left-clean, left-none, if-not, if-so, at_none, at_one}
+use Rattle.tree.proofs.Verdict.{left-all, left-clean, left-none, if-not, if-so, at_none, at_one}
 use Rattle.tree.proofs.refusal.Goals as goal
 
 -- The tests are left one by one, in the order of the calls.

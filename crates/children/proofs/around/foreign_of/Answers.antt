@@ -1,4 +1,3 @@
-use Prim.Native.Nat.{◌-◌}
 use Rattle.children.proofs.Arounds.{seeking_none, seeking-found, seeking-more, seeking-less, seeking-all}
 use Rattle.children.proofs.around.foreign_of.Goals as goal
 

@@ -1,4 +1,3 @@
-use Prim.Native.Nat.{◌-◌}
 use Rattle.children.proofs.Arounds.{heading_none, heading-stop, heading-more, heading-less, heading-all}
 use Rattle.children.proofs.around.leading_end.Goals as goal
 

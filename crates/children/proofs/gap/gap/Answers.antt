@@ -1,4 +1,3 @@
-use Prim.Native.Nat.{◌-◌}
 use native.Mathlib.Omega.{arith}
 use Rattle.children.proofs.Turns.{space-none}
 use Rattle.children.proofs.Spanning.{spanning_none, spanning-fits, spanning-more, spanning-stop, spanning_all, spanning_less}

@@ -1,4 +1,3 @@
-use Prim.Native.Nat.{◌-◌}
 use native.Mathlib.Omega.{arith}
 use Rattle.children.proofs.Turns.{space-none}
 use Rattle.children.proofs.Leading.{leading-none, leading-fits, leading-more, leading-stop, leading-all, leading-less}

@@ -1,4 +1,3 @@
-use Prim.Native.Nat.{◌-◌}
 use native.Mathlib.Omega.{arith}
 use Rattle.children.proofs.Surveying.{outlining_none, outlining-region, outlining-fits, outlining-less, outlining-more, outlining-all, outlining-stopped}
 use Rattle.children.proofs.survey.survey_from.Goals as goal

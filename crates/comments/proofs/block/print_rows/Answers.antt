@@ -1,4 +1,3 @@
-use Prim.Native.Nat.{◌-◌}
 use Rattle.comments.proofs.Said.{showing_none, showing_more, showing_all}
 use Rattle.comments.proofs.Walks.{row-less}
 use Rattle.comments.proofs.block.print_rows.Goals as goal

@@ -1,4 +1,3 @@
-use Prim.Native.Nat.{◌-◌}
 use Rattle.comments.proofs.Said.{tabbing_none, tabbing-more, tabbing-stop, tabbing-all}
 use Rattle.comments.proofs.block.print_tabbed.Goals as goal
 

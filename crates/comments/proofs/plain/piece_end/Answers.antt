@@ -1,4 +1,3 @@
-use Prim.Native.Nat.{◌-◌}
 use Rattle.comments.proofs.Walks.{plain-none, plain_more, plain-stop, plain-all}
 use Rattle.comments.proofs.plain.piece_end.Goals as goal
 

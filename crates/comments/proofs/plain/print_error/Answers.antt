@@ -1,4 +1,3 @@
-use Prim.Native.Nat.{◌-◌}
 use native.Mathlib.Omega.{arith}
 use Rattle.comments.proofs.Said.{erring_none, erring_more, erring-last, erring-all}
 use Rattle.comments.proofs.plain.print_error.Goals as goal

@@ -1,5 +1,4 @@
 use mathlib.Core.Path.{sym}
-use Prim.Native.Nat.{◌-◌}
 use lib.Seq.{length-take-le}
 use Rattle.comments.proofs.Walks.{row-less, padding-none, padding-more, padding-blank, padding_spent, padding-all}
 use Rattle.comments.proofs.rows.common_length.Goals as goal

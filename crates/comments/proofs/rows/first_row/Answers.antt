@@ -1,4 +1,3 @@
-use Prim.Native.Nat.{◌-◌}
 use native.Mathlib.Omega.{arith}
 use Rattle.comments.proofs.Walks.{row-less, skipping_none, skipping-more, skipping-stop, skipping_all}
 use Rattle.comments.proofs.rows.first_row.Goals as goal

@@ -1,5 +1,4 @@
 use mathlib.Core.Bool.{false}
-use Rattle.items.proofs.Fits.{puts-same}
 use Rattle.formatter.proofs.Calls.{plan-fits, marks-fit, prints-ample, lacking, tells, prints, lists}
 use Rattle.formatter.proofs.serve.serve_planned.Goals as goal
 

@@ -1,5 +1,3 @@
-use mathlib.Core.Path.{◌≡◌}
-use Prim.Native.Nat.{◌+◌}
 use native.Mathlib.Omega.{arith}
 use Rattle.items.proofs.Decimals.{four_shorter, decimal-short}
 use Rattle.items.proofs.lines.decimal_length.Goals as goal

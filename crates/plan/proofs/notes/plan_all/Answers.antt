@@ -1,4 +1,3 @@
-use Rattle.std.specs.Prelude.{◌-◌}
 use Rattle.plan.proofs.Noted.{noting_none, noting-less, noting-few, noting-more, noting-all}
 use Rattle.plan.proofs.notes.plan_all.Goals as goal
 

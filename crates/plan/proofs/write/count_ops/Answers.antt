@@ -1,5 +1,4 @@
 use mathlib.Core.List.{flatten}
-use Rattle.std.specs.Prelude.{◌-◌}
 use mathlib.Core.Path.{refl}
 use Rattle.plan.specs.Words.{words}
 use Rattle.plan.proofs.Written.{counting-none, counting-fits, counting_more, counting-all_lem}

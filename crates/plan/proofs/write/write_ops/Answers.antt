@@ -1,5 +1,4 @@
 use mathlib.Core.List.{flatten}
-use Rattle.std.specs.Prelude.{◌-◌}
 use mathlib.Core.Path.{refl}
 use Rattle.items.proofs.Fits.{puts-same}
 use Rattle.plan.specs.Words.{words}

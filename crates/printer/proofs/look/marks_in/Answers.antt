@@ -1,4 +1,3 @@
-use Rattle.std.specs.Prelude.{◌-◌}
 use Rattle.printer.proofs.Marking.{marks-any, marking-none, marking-less, marking-more, marking-all}
 use Rattle.printer.proofs.look.marks_in.Goals as goal
 

@@ -1,4 +1,3 @@
-use Rattle.std.specs.Prelude.{◌-◌}
 use borrow.Author.Rules.{rules}
 use mathlib.Core.Path.{◌∙◌, ap, refl, sym}
 use native.Mathlib.Omega.{arith}

@@ -1,4 +1,3 @@
-use Prim.Native.Nat.{◌-◌}
 use Rattle.text.proofs.Walking.{line-none, line-stop, line-more, line-all_lem}
 use Rattle.text.proofs.lines.line_end.Goals as goal
 

@@ -1,4 +1,3 @@
-use Prim.Native.Nat.{◌-◌}
 use Rattle.text.proofs.Walking.{counting-none, counting_hit, counting_miss, counting-all_lem}
 use Rattle.text.proofs.lines.line_feeds.Goals as goal
 use Rattle.text.proofs.lines.line_feeds.Goals.{then-s-i-eq-LINE_FEED, else-s-i-eq-LINE_FEED}

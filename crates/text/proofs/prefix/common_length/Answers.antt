@@ -1,4 +1,3 @@
-use Prim.Native.Nat.{◌-◌}
 use Rattle.text.proofs.Walking.{common-none, common-more_lem, common-stop, common-short, common-all}
 use Rattle.text.proofs.prefix.common_length.Goals as goal
 

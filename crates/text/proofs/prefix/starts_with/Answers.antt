@@ -1,4 +1,3 @@
-use Prim.Native.Nat.{◌-◌}
 use Rattle.text.proofs.Walking.{starts_none, starts_more, starts-short_lem, starts_other, starts-all}
 use Rattle.text.proofs.prefix.starts_with.Goals as goal
 

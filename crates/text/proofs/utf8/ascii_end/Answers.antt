@@ -1,4 +1,3 @@
-use Prim.Native.Nat.{◌-◌}
 use Rattle.text.proofs.Owing.{passing-none, passing-more}
 use Rattle.text.proofs.utf8.ascii_end.Goals as goal
 

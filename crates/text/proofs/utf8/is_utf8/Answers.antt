@@ -1,4 +1,3 @@
-use Prim.Native.Nat.{◌-◌}
 use Rattle.text.proofs.Owing.{validating_none, validating_more, validating_on, validating_all}
 use Rattle.text.proofs.utf8.is_utf8.Goals as goal
 

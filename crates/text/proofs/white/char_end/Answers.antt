@@ -1,4 +1,3 @@
-use Prim.Native.Nat.{◌-◌}
 use Rattle.text.proofs.Trimming.{tails-none, tails-more, tails-stop, tails_end}
 use Rattle.text.proofs.white.char_end.Goals as goal
 

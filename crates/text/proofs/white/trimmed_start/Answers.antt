@@ -1,4 +1,3 @@
-use Prim.Native.Nat.{◌-◌}
 use Rattle.text.proofs.Trimming.{starting_none, starting_more, starting_stop, starting_all}
 use Rattle.text.proofs.white.trimmed_start.Goals as goal
 

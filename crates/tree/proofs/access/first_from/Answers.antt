@@ -1,6 +1,5 @@
 use mathlib.Core.Path.{refl}
 use mathlib.Core.Option.{none}
-use Prim.Native.Nat.{◌-◌}
 use Rattle.tree.proofs.Looking.{looking-on, looking-met, looking-all, looking-less, nth_here, nth_on, nth-over}
 use Rattle.tree.proofs.access.first_from.Goals as goal
 

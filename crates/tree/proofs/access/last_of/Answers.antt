@@ -1,4 +1,3 @@
-use Prim.Native.Nat.{◌-◌}
 use Rattle.tree.proofs.Looking.{looking-on, looking-all, looking-less, last_on, last-over, or_else_none}
 use Rattle.tree.proofs.access.last_of.Goals as goal
 

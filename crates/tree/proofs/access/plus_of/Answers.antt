@@ -1,6 +1,5 @@
 use mathlib.Core.Path.{refl}
 use mathlib.Core.Option.{none}
-use Prim.Native.Nat.{◌-◌}
 use Rattle.tree.proofs.Looking.{looking-on, looking-met, looking-all, looking-less, plus-here, plus-on, plus-over}
 use Rattle.tree.proofs.access.plus_of.Goals as goal
 

@@ -1,4 +1,3 @@
-use Prim.Native.Nat.{◌-◌}
 use Rattle.tree.proofs.Asciis.{topping_none, topping_more, topping_all}
 use Rattle.tree.proofs.clean.is_ascii.Goals as goal
 

@@ -1,4 +1,3 @@
-use Prim.Native.Nat.{◌-◌}
 use native.Mathlib.Omega.{arith}
 use Rattle.tree.proofs.Ending.{ending-none, ending-all, ending-met, ending-more, ending-less}
 use Rattle.tree.proofs.index.find_end.Goals as goal

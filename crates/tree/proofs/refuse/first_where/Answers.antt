@@ -1,5 +1,4 @@
 use mathlib.Core.Path.{refl}
-use Prim.Native.Nat.{◌-◌}
 use borrow.Author.Rules.{rules}
 use Rattle.tree.proofs.FirstWhere.{where_search}
 use Rattle.tree.proofs.Search.{search-more, search-hit, search-all}

@@ -1,5 +1,4 @@
 use mathlib.Core.Bool.{true, false}
-use Prim.Native.Nat.{◌-◌}
 use native.Mathlib.Omega.{arith}
 use Rattle.tree.proofs.Search.{walking_on, walking-met, walking-all_lem, ident-none, ident-here, ident-later, ident_over}
 use Rattle.tree.proofs.refuse.lacks_ident.Goals as goal

@@ -1,4 +1,3 @@
-use Prim.Native.Nat.{◌-◌}
 use borrow.Author.Rules.{rules}
 use Rattle.tree.proofs.Sums.{summing_none, summing_more, summing_all}
 use Rattle.tree.proofs.refuse.sum_of_sizes.Goals as goal
