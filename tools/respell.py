@@ -15,6 +15,9 @@ DEFINED = re.compile(r"^((?:abbrev |unfoldable |pub |data |record |ruleset )*)([
 MEMBER = re.compile(r"^ +(?:pub |\| )?([a-z][\w'-]*)(?: [a-z][\w']*)* : ", re.M)
 # Lemmas that port.py gave the name that a word of theirs has now.
 LEMMAS = ["parts_from", "plain_entry", "size_in", "level_in", "same_bytes", "text_at"]
+# Constructors beside others of one type, definitions in modules and blocks, and one name under which another is imported.
+MORE = """comp_body comp_of each_of end_of_items every_row in_many in_one item_inline local_of many_binds note_kinds part_or run_end statements_of
+text_lines walked_after weight_of with_comments""".split()
 CAMEL = re.compile(r"^[a-z][\w']*[A-Z]")
 
 
@@ -52,7 +55,7 @@ def names():
             name = found[2]
             (lemmas if "-" in name else words).add(name)
         words |= {m[1] for m in MEMBER.finditer(text)}
-    return words, lemmas
+    return words | {re.sub(r"_([a-z])", lambda m: m[1].upper(), it) for it in MORE}, lemmas
 
 
 def functions():
@@ -91,7 +94,7 @@ def main(argv):
     for old, name in new.items():
         taken.setdefault(name, set()).add(old)
     for name, olds in taken.items():
-        if len(olds) > 1 or name in words | lemmas:
+        if len(olds) > 1 or name in words | lemmas - set(MORE):
             print(f"look: {sorted(olds)} -> {name}" + (" (there already)" if name in words | lemmas else ""))
     if argv == ["--list"]:
         for old in sorted(new):

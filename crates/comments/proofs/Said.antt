@@ -16,7 +16,7 @@ use Rattle.text.proofs.Lists.{and_true}
 use Rattle.items.specs.Item.{Item, text, newline, tab}
 use Rattle.items.specs.Machine.{Held, Says}
 use Rattle.items.proofs.Laws.{unsaid, Going, going-none, going_more, going-all}
-use Rattle.comments.specs.Comments.{Location, above_item, itemInline, endOfItems, optional, single_line, common, common_padding, block_lines, immediate, unpadded, tabbed, one_line, on_one_line, many_lines, block_of, multi_line, error_items, comment}
+use Rattle.comments.specs.Comments.{Location, above_item, item_inline, end_of_items, optional, single_line, common, common_padding, block_lines, immediate, unpadded, tabbed, one_line, on_one_line, many_lines, block_of, multi_line, error_items, comment}
 use Rattle.comments.specs.Rows.{rows, FirstRow, is_cut, Piece}
 use Rattle.comments.proofs.Walks.{row_step, rows_none}
 
@@ -287,8 +287,8 @@ block-some doc now (l ∷ ls) loc h = go (is_nil ls && not doc) loc
   where
     go : (b : Bool) (loc : Location) → false ≡ is_nil (cond b (on_one_line l loc) (many_lines doc (unpadded now (l ∷ ls))))
     go true above_item = refl
-    go true itemInline = refl
-    go true endOfItems = refl
+    go true item_inline = refl
+    go true end_of_items = refl
     go false loc = refl
 
 empty : (t : List ℕ) → length t ≡ 0 → t ≡ []

@@ -9,7 +9,7 @@ use lib.ListN.{length}
 use borrow.Author.Tests.{ne_eqb}
 use Rattle.text.specs.Basic.{is_nil}
 use Rattle.items.specs.Item.{text, newline, tab}
-use Rattle.comments.specs.Comments.{Location, above_item, itemInline, endOfItems, single_line, error_items, comment}
+use Rattle.comments.specs.Comments.{Location, above_item, item_inline, end_of_items, single_line, error_items, comment}
 
 -- a kind by its number
 pub keyed-nil : (j k : ℕ) (s : List ℕ) (loc : Location) {b : Bool} → k ≡ j → b ≡ is_nil (comment j s loc) → b ≡ is_nil (comment k s loc)
@@ -18,8 +18,8 @@ keyed-nil j k s loc e h = rw e h
 pub single-some : (opening rest : List ℕ) (loc : Location) → false ≡ is_nil (single_line opening rest loc)
 unfolding single_line
 single-some opening rest above_item = refl
-single-some opening rest itemInline = refl
-single-some opening rest endOfItems = refl
+single-some opening rest item_inline = refl
+single-some opening rest end_of_items = refl
 
 -- an error's text with a piece begun
 pieces-some : (done s : List ℕ) → is_nil done ≡ false → is_nil (error_items done s) ≡ false

@@ -5,11 +5,11 @@ use Rattle.text.specs.Lent.{Lent, LentMut}
 use Rattle.items.specs.declared.Printed.{Printed}
 use Rattle.items.specs.declared.Printed.TheVariants.{Done, Full}
 use Rattle.items.specs.Machine.{Outcome, full, reached, printing, seen, no_size}
-use Rattle.comments.specs.Comments.{Location, above_item, itemInline, endOfItems, comment}
+use Rattle.comments.specs.Comments.{Location, above_item, item_inline, end_of_items, comment}
 
 -- the place with a number: 0 above an item, 1 inline, else after all items
 unfoldable pub location : ℕ → Location
-location n = cond (eqb n 0) above_item (cond (eqb n 1) itemInline endOfItems)
+location n = cond (eqb n 0) above_item (cond (eqb n 1) item_inline end_of_items)
 
 -- what printing a comment from the start comes to, in the lent buffers
 abbrev pub comment_in : LentMut → LentMut → ℕ → Lent → ℕ → Outcome

@@ -10,12 +10,12 @@ use lib.Dec.{leb, eqb}
 use borrow.Author.Tests.{eq-eqb}
 use Rattle.text.specs.Basic.{ascii, is_nil, sum, All, ∅, ◌▹◌}
 use Rattle.text.proofs.Lists.{sum-append, all_append}
-use Rattle.items.specs.Item.{Test, lines, Item, text, newline, space_or_newline, tab, indent, outdent, mark, group, group_end, block, block_end, run, runEnd, again, if_test, else_item, end_if, Out, stop, ok, Context, Print, after, next, ◌⨟◌, none, say, says, stopped, lit, when, keeping, with_number, open_run, starting_at, signal}
+use Rattle.items.specs.Item.{Test, lines, Item, text, newline, space_or_newline, tab, indent, outdent, mark, group, group_end, block, block_end, run, run_end, again, if_test, else_item, end_if, Out, stop, ok, Context, Print, after, next, ◌⨟◌, none, say, says, stopped, lit, when, keeping, with_number, open_run, starting_at, signal}
 use Rattle.numbers.specs.Mode.{keeps}
 use Rattle.items.specs.Role.{stays, role, is_run, is_mark, runs_of, marks_of}
 use Rattle.items.specs.declared.Signal.{Signal}
 use Rattle.items.proofs.Fits.{items_of}
-use Rattle.comments.specs.Comments.{Location, above_item, itemInline, endOfItems}
+use Rattle.comments.specs.Comments.{Location, above_item, item_inline, end_of_items}
 use Rattle.comments.proofs.Every.{comment-all}
 use Rattle.tree.specs.Tree.{Forest, nil, tree, Part, texts, parts}
 use Rattle.tree.specs.Class.{is, nth, first, plus_of}
@@ -116,7 +116,7 @@ own_body k xs bs = rw (eq-eqb k k refl)
 
 -- a run, and its repetition: items that stay are between the two and behind
 run_fits : {k l : ℕ} {xs ys us vs : List Item} → Fits 0 0 (suc k) l xs ys → All (Still k) us → All (Still k) vs
-    → Fits 2 0 k l (run k ∷ xs ++ (runEnd k ∷ us ++ (again k ∷ vs))) (ys ++ (us ++ (ys ++ vs)))
+    → Fits 2 0 k l (run k ∷ xs ++ (run_end k ∷ us ++ (again k ∷ vs))) (ys ++ (us ++ (ys ++ vs)))
 unfolding puts put sum
 run_fits {k} {l} {xs} {ys} {us} {vs} f p q = let g = still-fits p in let h = still-fits q in record {
   back = λ s. let (m, e) = f.back (opened k s) in
@@ -128,7 +128,7 @@ run_fits {k} {l} {xs} {ys} {us} {vs} f p q = let g = still-fits p in let h = sti
   next = rw runs_append (omega (arith, f.next, runs_append us (again k ∷ vs), g.next, h.next));
   marks = rw (runs_append, marks-append) (omega (arith, f.marks, runs_append us (again k ∷ vs), marks-append us (again k ∷ vs), g.next, g.marks, h.next, h.marks));
   small = let t : k ≤ l = omega (arith, f.next) in
-      names (run k) (omega arith) ▹ all_append f.small (names (runEnd k) (omega arith) ▹ all_append (below_le t g.small) (names (again k) (omega arith) ▹ below_le t h.small));
+      names (run k) (omega arith) ▹ all_append f.small (names (run_end k) (omega arith) ▹ all_append (below_le t g.small) (names (again k) (omega arith) ▹ below_le t h.small));
 }
 
 -- Two printings from number k: both stop at one element, or both come to the same number.
@@ -330,7 +330,7 @@ separator-agree : {j : ℕ} (t : Test) → Tests j t → Agree j (Combine.separa
 separator-agree t h = either-agree t h (own-agree newline refl refl) (own-agree space_or_newline refl refl)
 
 ending-agree : {j : ℕ} (e : Reading.Ending) → Agree j (Combine.ending e) (PlainCombine.ending e)
-ending-agree e = newline-agree e.blank_line ⨾ comments-agree endOfItems e.trivia
+ending-agree e = newline-agree e.blank_line ⨾ comments-agree end_of_items e.trivia
 
 cond_agree : {j : ℕ} (b : Bool) {p q p' q' : Print} → Agree j p q → Agree j p' q' → Agree j (cond b p p') (cond b q q')
 cond_agree true h g = h
@@ -354,17 +354,17 @@ source-agree : {j : ℕ} (a b : Reading.Around) {p q : Print} → Agree j p q �
 unfolding Print.source_of Plain.source_of
 source-agree (Reading.foreign_at n) t h = stopped-agree n
 source-agree (Reading.trivia xs) (Reading.foreign_at n) h = stopped-agree n
-source-agree (Reading.trivia xs) (Reading.trivia ys) h = comments-agree above_item xs ⨾ h ⨾ own-agree newline refl refl ⨾ comments-agree endOfItems ys
+source-agree (Reading.trivia xs) (Reading.trivia ys) h = comments-agree above_item xs ⨾ h ⨾ own-agree newline refl refl ⨾ comments-agree end_of_items ys
 
 -- printings of parts that agree make printings of nodes that agree
 module _ (pr pr' : ℕ → Print) (same : (n : ℕ) → Agree 0 (pr n) (pr' n)) where
-  part-agree : {p q : Print} → Agree 0 p q → (o : Option Part) → Agree 0 (Print.partOr pr p o) (Plain.partOr pr' q o)
-  unfolding Print.partOr Plain.partOr
+  part-agree : {p q : Print} → Agree 0 p q → (o : Option Part) → Agree 0 (Print.part_or pr p o) (Plain.part_or pr' q o)
+  unfolding Print.part_or Plain.part_or
   part-agree h nothing = h
   part-agree h (some x) = same x.number
 
-  each-agree : (c : Class) (front : String) (ended : Bool) (xs : List Part) → Agree 0 (Print.eachOf pr c front ended xs) (Plain.eachOf pr' c front ended xs)
-  unfolding Print.eachOf Plain.eachOf
+  each-agree : (c : Class) (front : String) (ended : Bool) (xs : List Part) → Agree 0 (Print.each_of pr c front ended xs) (Plain.each_of pr' c front ended xs)
+  unfolding Print.each_of Plain.each_of
   each-agree c front ended [] = none-agree
   each-agree c front ended (x ∷ xs) =
       cond_agree (is c x)
@@ -387,10 +387,10 @@ module _ (pr pr' : ℕ → Print) (same : (n : ℕ) → Agree 0 (pr n) (pr' n)) 
 
   module _ {j : ℕ} (f f' g g' : Bool → Print) (hf : (b : Bool) → Agree j (f b) (f' b)) (hg : (b : Bool) → Agree j (g b) (g' b)) where
     children-agree : (cs : List Reading.Child) → Agree j (Print.children pr f g cs) (Plain.children pr' f' g' cs)
-    unfolding Print.children Print.withComments Plain.children Plain.withComments
+    unfolding Print.children Print.with_comments Plain.children Plain.with_comments
     children-agree [] = none-agree
     children-agree (c ∷ cs) =
-        (newline-agree c.blank_line ⨾ comments-agree above_item c.before ⨾ later (same c.value.number) ⨾ hf (Reading.more cs) ⨾ comments-agree itemInline c.inline)
+        (newline-agree c.blank_line ⨾ comments-agree above_item c.before ⨾ later (same c.value.number) ⨾ hf (Reading.more cs) ⨾ comments-agree item_inline c.inline)
         ⨾ hg (Reading.more cs) ⨾ children-agree cs
 
   list-agree : (empty a z : String) (r : Reading.Reading) → Agree 0 (Print.list pr empty a z r) (Plain.list pr' empty a z r)
@@ -407,16 +407,16 @@ module _ (pr pr' : ℕ → Print) (same : (n : ℕ) → Agree 0 (pr n) (pr' n)) 
       then_inner k _ _ (shared-inner k (lines (2 * k)) _ _ (newline ∷ []) [] b (still newline refl refl ▹ ∅) ∅
       (grouped-agree (children-agree _ _ _ _ (λ m. comma-agree m (lines (2 * k)) b) (λ m. when-agree m (separator-agree (lines (2 * k)) b)) cs))) (ending-agree e))
 
-  comp_body-agree : (ms : List Reading.Child) (me : Reading.Ending) (r : Reading.Reading) → Agree 0 (Print.compBody pr ms me r) (Plain.compBody pr' ms me r)
-  unfolding Print.compBody Print.indented Plain.compBody Plain.indented
+  comp_body-agree : (ms : List Reading.Child) (me : Reading.Ending) (r : Reading.Reading) → Agree 0 (Print.comp_body pr ms me r) (Plain.comp_body pr' ms me r)
+  unfolding Print.comp_body Print.indented Plain.comp_body Plain.indented
   comp_body-agree ms me (Reading.foreign n) = stopped-agree n
   comp_body-agree ms me (Reading.read cs e) =
       run_agree "{" "}" (Reading.any_many_lines ms || (Reading.any_many_lines cs || (me.blank_line || e.blank_line))) _ _ (λ k t b. grouped-agree (grouped-agree (
       children-agree _ _ _ _ (λ m. only_if-agree t b (lit-agree ",")) (λ m. separator-agree t b) ms ⨾ newline-agree me.blank_line
       ⨾ children-agree _ _ _ _ (λ m. none-agree) (λ m. separator-agree t b) cs) ⨾ ending-agree e))
 
-  comp_of-agree : (xs : List Part) (r : Reading.Reading) → Agree 0 (Print.compOf pr xs r) (Plain.compOf pr' xs r)
-  unfolding Print.compOf Plain.compOf
+  comp_of-agree : (xs : List Part) (r : Reading.Reading) → Agree 0 (Print.comp_of pr xs r) (Plain.comp_of pr' xs r)
+  unfolding Print.comp_of Plain.comp_of
   comp_of-agree xs (Reading.foreign n) = stopped-agree n
   comp_of-agree xs (Reading.read ms me) = comp_body-agree ms me (Reading.comp_specs me xs)
 
@@ -425,13 +425,13 @@ module _ (pr pr' : ℕ → Print) (same : (n : ℕ) → Agree 0 (pr n) (pr' n)) 
   comprehension-agree n xs nothing = stopped-agree n
   comprehension-agree n xs (some x) = comp_of-agree xs (Reading.comp_members x xs)
 
-  binds-agree : (cs : List Reading.Child) (e : Reading.Ending) → Agree 0 (Print.manyBinds pr cs e) (Plain.manyBinds pr' cs e)
-  unfolding Print.manyBinds Plain.manyBinds
+  binds-agree : (cs : List Reading.Child) (e : Reading.Ending) → Agree 0 (Print.many_binds pr cs e) (Plain.many_binds pr' cs e)
+  unfolding Print.many_binds Plain.many_binds
   binds-agree cs e = lit-agree "local" ⨾ own-agree indent refl refl ⨾ own-agree newline refl refl
       ⨾ children-agree _ _ _ _ (λ m. lit-agree ",") (λ m. own-agree newline refl refl) cs ⨾ ending-agree e ⨾ own-agree outdent refl refl
 
-  local-agree : (r : Reading.Reading) → Agree 0 (Print.localOf pr r) (Plain.localOf pr' r)
-  unfolding Print.localOf Plain.localOf
+  local-agree : (r : Reading.Reading) → Agree 0 (Print.local_of pr r) (Plain.local_of pr' r)
+  unfolding Print.local_of Plain.local_of
   local-agree (Reading.foreign n) = stopped-agree n
   local-agree (Reading.read [] e) = binds-agree [] e
   local-agree (Reading.read (c ∷ []) e) = comments-agree above_item c.before ⨾ lit-agree "local " ⨾ same c.value.number
@@ -440,12 +440,12 @@ module _ (pr pr' : ℕ → Print) (same : (n : ℕ) → Agree 0 (pr n) (pr' n)) 
   statements-agree : (cs : List Reading.Child) → Agree 0 (Print.statements pr cs) (Plain.statements pr' cs)
   unfolding Print.statements Print.statement Plain.statements Plain.statement
   statements-agree [] = none-agree
-  statements-agree (c ∷ cs) = (kept-agree above_item c.before ⨾ same c.value.number ⨾ kept-agree endOfItems c.inline) ⨾ statements-agree cs
+  statements-agree (c ∷ cs) = (kept-agree above_item c.before ⨾ same c.value.number ⨾ kept-agree end_of_items c.inline) ⨾ statements-agree cs
 
-  statements_of-agree : (r : Reading.Reading) → Agree 0 (Print.statementsOf pr r) (Plain.statementsOf pr' r)
-  unfolding Print.statementsOf Plain.statementsOf
+  statements_of-agree : (r : Reading.Reading) → Agree 0 (Print.statements_of pr r) (Plain.statements_of pr' r)
+  unfolding Print.statements_of Plain.statements_of
   statements_of-agree (Reading.foreign n) = stopped-agree n
-  statements_of-agree (Reading.read cs e) = statements-agree cs ⨾ kept-agree endOfItems e.trivia
+  statements_of-agree (Reading.read cs e) = statements-agree cs ⨾ kept-agree end_of_items e.trivia
 
   values_agree : (cs : List Reading.Child) → Agree 0 (Print.values pr cs) (Plain.values pr' cs)
   unfolding Print.values Plain.values

@@ -12,12 +12,12 @@ use lib.ListN.{length, length-append}
 use borrow.Author.Tests.{leb-true, eqb-true, eq-eqb, ne_eqb}
 use Rattle.text.specs.Basic.{ascii, is_nil, sum, All, ∅, ◌▹◌}
 use Rattle.text.proofs.Lists.{and_true, sum-append}
-use Rattle.items.specs.Item.{Test, Item, text, newline, space_or_newline, indent, outdent, mark, group, group_end, block, block_end, run, runEnd, again, if_test, else_item, end_if, Out, stop, ok, Context, Print, after, next, ◌⨟◌, none, say, says, stopped, lit, when, keeping, with_number, open_run, signal}
+use Rattle.items.specs.Item.{Test, Item, text, newline, space_or_newline, indent, outdent, mark, group, group_end, block, block_end, run, run_end, again, if_test, else_item, end_if, Out, stop, ok, Context, Print, after, next, ◌⨟◌, none, say, says, stopped, lit, when, keeping, with_number, open_run, signal}
 use Rattle.numbers.specs.Mode.{keeps}
 use Rattle.items.specs.Records.{bytes_of}
 use Rattle.items.specs.declared.Signal.{Signal}
 use Rattle.items.proofs.Fits.{items_of}
-use Rattle.comments.specs.Comments.{Location, above_item, itemInline, endOfItems, comment}
+use Rattle.comments.specs.Comments.{Location, above_item, item_inline, end_of_items, comment}
 use Rattle.tree.specs.Tree.{Element, Forest, nil, tree, Part, texts, parts}
 use Rattle.tree.specs.declared.class.Class.{Class}
 use Rattle.tree.specs.Class.{is, kinds, one_of, of_kind, nth, first}
@@ -27,10 +27,10 @@ use Rattle.plan.specs.Comments.{comments}
 use Rattle.printer.specs.Combine
 use Rattle.printer.specs.Layout.{What, txt, bare, part, opt, each, plus, Piece, asked, layout, rows}
 use Rattle.printer.specs.Print
-use Rattle.formatter.proofs.Tests.{every, everyRow, within_all, class-all, layout-every}
+use Rattle.formatter.proofs.Tests.{every, every_row, within_all, class-all, layout-every}
 use Rattle.formatter.proofs.Weights
 use Rattle.formatter.proofs.Weights.{noted, listed, sum-behind, sum-upTo, heft, taken, Maybe, neither, just, nth-all, plus-all, Of, TameReading, between-tame}
-use Rattle.formatter.proofs.Columns.{Column, whole, early, late, note, apart, single, empty, Seen, seeing, column, columns, columns-le, weightOf, whole_sum, plus-sum, note-sum, early-nth, second-nth}
+use Rattle.formatter.proofs.Columns.{Column, whole, early, late, note, apart, single, empty, Seen, seeing, column, columns, columns-le, weight_of, whole_sum, plus-sum, note-sum, early-nth, second-nth}
 
 -- Tests over the table of rows: the texts are short, a second part is an expression, parts that are all printed can be in a list, and no part is printed twice.
 
@@ -139,7 +139,7 @@ fair : List Piece → Bool
 fair ps = apart (all_picks ps) && (leb (fees ps) 14 && sounds ps)
 
 layout-fair : (k : ℕ) → fair (layout k) ≡ true
-unfolding fair apart all_picks fees sounds every single empty kinds one_of rows everyRow
+unfolding fair apart all_picks fees sounds every single empty kinds one_of rows every_row
 layout-fair k = layout-every fair k refl
 
 -- the number of elements of a forest
@@ -251,7 +251,7 @@ module _ (m : Item → ℕ) (u : ℕ) (short-le : (x : Item) → short (bytes_of
   newline-b b = when-b b (say-b newline refl)
 
   ending-b : (e : Ending) → Bounded (u + sum half e.trivia) (Combine.ending e)
-  ending-b e = newline-b e.blank_line ⊕ comments-b endOfItems e.trivia
+  ending-b e = newline-b e.blank_line ⊕ comments-b end_of_items e.trivia
 
   grouped-b : {n : ℕ} {p : Print} → Bounded n p → Bounded (n + 2 * u) (Combine.grouped p)
   grouped-b h = (say-b group refl ⊕ h ⊕ say-b group_end refl) ≼ omega arith
@@ -270,7 +270,7 @@ module _ (m : Item → ℕ) (u : ℕ) (short-le : (x : Item) → short (bytes_of
   shared-b : (k : ℕ) (t : Test) {n a b : ℕ} {p q r : Print} → Bounded n p → Bounded a q → Bounded b r → Bounded (n + (a + b) + 9 * u) (Print.shared k t p q r)
   unfolding Print.shared
   shared-b k t h f g =
-      (say-b (if_test t) refl ⊕ (say-b block refl ⊕ say-b newline refl ⊕ run-b ⊕ h ⊕ say-b (runEnd k) refl ⊕ say-b block_end refl ⊕ f)
+      (say-b (if_test t) refl ⊕ (say-b block refl ⊕ say-b newline refl ⊕ run-b ⊕ h ⊕ say-b (run_end k) refl ⊕ say-b block_end refl ⊕ f)
       ⊕ say-b else_item refl ⊕ (g ⊕ say-b (again k) refl) ⊕ say-b end_if refl) ≼ omega arith
 
   indented-b : (k : ℕ) (t : Test) {n : ℕ} {p : Print} → Bounded n p → (e : Ending) → Bounded (n + sum half e.trivia + 13 * u) (Print.indented k t p e)
@@ -332,7 +332,7 @@ module _ (m : Item → ℕ) (u : ℕ) (short-le : (x : Item) → short (bytes_of
   unfolding Print.source_of
   source-b (foreign_at {m}) t h = stopped-b m
   source-b (trivia f) (foreign_at {m}) h = stopped-b m
-  source-b (trivia f) (trivia g) h = f above_item ⊕ h ⊕ say-b newline refl ⊕ g endOfItems
+  source-b (trivia f) (trivia g) h = f above_item ⊕ h ⊕ say-b newline refl ⊕ g end_of_items
 
   -- What a node prints, where its parts print what they may.
   module _ (pr : ℕ → Print) (size : ℕ → ℕ) where
@@ -353,21 +353,21 @@ module _ (m : Item → ℕ) (u : ℕ) (short-le : (x : Item) → short (bytes_of
 
     module _ (c : Class) (h : Roomy c) {a b : ℕ} (f g : Bool → Print) (hf : (m : Bool) → Bounded a (f m)) (hg : (m : Bool) → Bounded b (g m)) (l : a + b ≤ 9 * u) where
       children-b : {cs : List Child} → All (Of half W H c) cs → Bounded (sum (heft half W) cs) (Print.children pr f g cs)
-      unfolding Print.children sum Print.withComments
+      unfolding Print.children sum Print.with_comments
       children-b ∅ = none-b
       children-b (◌▹◌ {x = d} {xs = ds} o r) =
-          ((newline-b d.blank_line ⊕ comments-b above_item d.before ⊕ o.has.holds ⊕ hf (Reading.more ds) ⊕ comments-b itemInline d.inline) ⊕ hg (Reading.more ds) ⊕ children-b r)
+          ((newline-b d.blank_line ⊕ comments-b above_item d.before ⊕ o.has.holds ⊕ hf (Reading.more ds) ⊕ comments-b item_inline d.inline) ⊕ hg (Reading.more ds) ⊕ children-b r)
           ≼ omega (arith, l, ap (λ r. r * u) (roomy_is c h d.value.kind o.kind))
 
     statements-b : {c : Class} {cs : List Child} → All (Of half W H c) cs → Bounded (sum (heft half W) cs) (Print.statements pr cs)
     unfolding Print.statements Print.statement sum
     statements-b ∅ = none-b
-    statements-b (◌▹◌ {x = d} o r) = ((keeping-b (comments-b above_item d.before) ⊕ value-b o.has ⊕ keeping-b (comments-b endOfItems d.inline)) ⊕ statements-b r) ≼ omega arith
+    statements-b (◌▹◌ {x = d} o r) = ((keeping-b (comments-b above_item d.before) ⊕ value-b o.has ⊕ keeping-b (comments-b end_of_items d.inline)) ⊕ statements-b r) ≼ omega arith
 
-    statements_of-b : {c : Class} {n : ℕ} {r : Reading.Reading} → Tame c n r → Bounded n (Print.statementsOf pr r)
-    unfolding Print.statementsOf
+    statements_of-b : {c : Class} {n : ℕ} {r : Reading.Reading} → Tame c n r → Bounded n (Print.statements_of pr r)
+    unfolding Print.statements_of
     statements_of-b (Weights.foreign {m}) = stopped-b m
-    statements_of-b (Weights.read {e} o l) = (statements-b o ⊕ keeping-b (comments-b endOfItems e.trivia)) ≼ omega arith
+    statements_of-b (Weights.read {e} o l) = (statements-b o ⊕ keeping-b (comments-b end_of_items e.trivia)) ≼ omega arith
 
     values-b : {c : Class} {cs : List Child} → All (Of half W H c) cs → Bounded (sum (heft half W) cs) (Print.values pr cs)
     unfolding Print.values sum
@@ -395,32 +395,32 @@ module _ (m : Item → ℕ) (u : ℕ) (short-le : (x : Item) → short (bytes_of
         shared-b k _ (grouped-b (children-b c h _ _ (comma-b _) (λ m. when-b m (separator-b _)) (omega arith) o)) (say-b newline refl) none-b ⊕ ending-b e) ≼ omega arith
 
     comp_body-b : {ms : List Child} {n : ℕ} {r : Reading.Reading} → All (Of half W H Class.Member) ms → (me : Ending) → Tame Class.CompSpec n r
-        → Bounded (24 * u + (sum (heft half W) ms + n)) (Print.compBody pr ms me r)
-    unfolding every kinds one_of Print.compBody
+        → Bounded (24 * u + (sum (heft half W) ms + n)) (Print.comp_body pr ms me r)
+    unfolding every kinds one_of Print.comp_body
     comp_body-b o me (Weights.foreign {m}) = stopped-b m
     comp_body-b {ms} o me (Weights.read {cs} {e} a i) =
         bracketed-b "{" "}" refl refl _ (λ k. let t = Combine.test_of (Reading.any_many_lines ms || (Reading.any_many_lines cs || (me.blank_line || e.blank_line))) k in
         indented-b k t (grouped-b (children-b Class.Member refl _ _ (λ m. only_if-b t (lit-b "," refl)) (λ m. separator-b t) (omega arith) o
         ⊕ newline-b me.blank_line ⊕ children-b Class.CompSpec refl _ _ (λ m. none-b) (λ m. separator-b t) (omega arith) a)) e) ≼ omega arith
 
-    comp_of-b : {xs : List Part} {n : ℕ} {r : Reading.Reading} → All H xs → Tame Class.Member n r → Bounded (24 * u + (n + sum (taken half W Class.CompSpec) xs)) (Print.compOf pr xs r)
-    unfolding Print.compOf
+    comp_of-b : {xs : List Part} {n : ℕ} {r : Reading.Reading} → All H xs → Tame Class.Member n r → Bounded (24 * u + (n + sum (taken half W Class.CompSpec) xs)) (Print.comp_of pr xs r)
+    unfolding Print.comp_of
     comp_of-b p (Weights.foreign {m}) = stopped-b m
     comp_of-b {xs} p (Weights.read {e} a l) = comp_body-b a e (between-tame half W H Class.CompSpec _ _ (some e.trivia) p) ≼ omega arith
 
-    binds-b : {cs : List Child} → All (Of half W H Class.Bind) cs → (e : Ending) → Bounded (sum (heft half W) cs + sum half e.trivia + 5 * u) (Print.manyBinds pr cs e)
-    unfolding every kinds one_of Print.manyBinds
+    binds-b : {cs : List Child} → All (Of half W H Class.Bind) cs → (e : Ending) → Bounded (sum (heft half W) cs + sum half e.trivia + 5 * u) (Print.many_binds pr cs e)
+    unfolding every kinds one_of Print.many_binds
     binds-b o e = (lit-b "local" refl ⊕ say-b indent refl ⊕ say-b newline refl ⊕ children-b Class.Bind refl _ _ (λ m. lit-b "," refl) (λ m. say-b newline refl) (omega arith) o ⊕ ending-b e ⊕ say-b outdent refl) ≼ omega arith
 
-    local-b : {n : ℕ} {r : Reading.Reading} → Tame Class.Bind n r → Bounded (n + 5 * u) (Print.localOf pr r)
-    unfolding sum Print.localOf
+    local-b : {n : ℕ} {r : Reading.Reading} → Tame Class.Bind n r → Bounded (n + 5 * u) (Print.local_of pr r)
+    unfolding sum Print.local_of
     local-b (Weights.foreign {m}) = stopped-b m
     local-b (Weights.read {e} ∅ l) = binds-b ∅ e ≼ omega arith
     local-b (Weights.read (◌▹◌ {x = d} o ∅) l) = (comments-b above_item d.before ⊕ lit-b "local " refl ⊕ value-b o.has) ≼ omega arith
     local-b (Weights.read {e} (o ▹ o' ▹ r) l) = binds-b (o ▹ o' ▹ r) e ≼ omega arith
 
-    part-b : {n : ℕ} {p : Print} → Bounded n p → {x : Option Part} → Maybe H x → Bounded (n + weightOf W x) (Print.partOr pr p x)
-    unfolding Print.partOr
+    part-b : {n : ℕ} {p : Print} → Bounded n p → {x : Option Part} → Maybe H x → Bounded (n + weight_of W x) (Print.part_or pr p x)
+    unfolding Print.part_or
     part-b h neither = h ≼ omega arith
     part-b h (just g) = value-b g ≼ omega arith
 
@@ -446,14 +446,14 @@ module _ (m : Item → ℕ) (u : ℕ) (short-le : (x : Item) → short (bytes_of
           columns-le W (whole Class.Stmt ∷ early Class.ExprBase ∷ whole Class.Suffix ∷ note ∷ []) refl fresh xs,
         )
 
-    each-b : (c : Class) → Roomy c → (front : String) → Short front → (ended : Bool) {xs : List Part} → All H xs → (seen : Seen) → Bounded (column W (whole c) seen xs) (Print.eachOf pr c front ended xs)
-    unfolding Print.eachOf column
+    each-b : (c : Class) → Roomy c → (front : String) → Short front → (ended : Bool) {xs : List Part} → All H xs → (seen : Seen) → Bounded (column W (whole c) seen xs) (Print.each_of pr c front ended xs)
+    unfolding Print.each_of column
     each-b c h front z ended ∅ seen = none-b
     each-b c h front z ended (◌▹◌ {x} w r) seen = let g = each-b c h front z ended r (seeing x seen) in
         rw and_is at (share-b (is c x) true (W x)
         (λ e. (when-b (not (is_nil (ascii front))) (lit-b front z) ⊕ w.holds ⊕ when-b ended (lit-b "," refl ⊕ say-b newline refl) ⊕ g) ≼ omega (arith, ap (λ r. r * u) (roomy_is c h x.kind e))) g)
 
-    placed-b : (c : Class) (n : ℕ) → placing c n ≡ true → (xs : List Part) → weightOf W (nth c n xs) ≤ column W (placed c n) fresh xs
+    placed-b : (c : Class) (n : ℕ) → placing c n ≡ true → (xs : List Part) → weight_of W (nth c n xs) ≤ column W (placed c n) fresh xs
     placed-b c zero h xs = early-nth W c xs fresh (fresh_unseen c)
     placed-b c (suc zero) h xs = second-nth W c 2 (λ k e. eqb-true k 2 (class-all c (λ j. eqb j 2) h k e)) xs fresh
     placed-b c (suc (suc n)) h xs = absurd (false≢true h)
@@ -515,8 +515,8 @@ module _ (m : Item → ℕ) (u : ℕ) (short-le : (x : Item) → short (bytes_of
         tame : (c a z : Class) → Tame c (sum half (listed nothing) + sum (taken half W c) xs) (Reading.enclosed c a z xs)
         tame c a z = between-tame half W H c (first a xs) (first z xs) nothing p
 
-    file-b : {xs : List Part} {x : Option Part} → All H xs → Maybe H x → Bounded (2 * u + (weightOf W x + 2 * sum (noted half) xs)) (Print.source pr xs x)
-    unfolding comments Print.source Print.partOr Reading.trivia_before Reading.trivia_after
+    file-b : {xs : List Part} {x : Option Part} → All H xs → Maybe H x → Bounded (2 * u + (weight_of W x + 2 * sum (noted half) xs)) (Print.source pr xs x)
+    unfolding comments Print.source Print.part_or Reading.trivia_before Reading.trivia_after
     file-b {xs} p neither = source-b (trivia {xs = Reading.leading xs} (λ loc. leading-b loc xs)) (trivia {xs = []} (λ loc. none-b)) (lit-b "/*missing Expr*/" refl) ≼ omega arith
     file-b {xs} p (just {x} h) =
         source-b (strict-b (Reading.up_to x.number xs)) (strict-b (Reading.behind x.number xs)) (value-b h) ≼ omega (arith, sum-upTo (noted half) x.number xs, sum-behind (noted half) x.number xs)

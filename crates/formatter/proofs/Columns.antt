@@ -143,9 +143,9 @@ module _ (weight : Part → ℕ) where
       rw columns-cons (omega (arith, shares-single cs (seen y.kind) y (apart-single cs h (seen y.kind) y.kind), columns-le cs h (seeing y seen) ys))
 
   -- the weight of what one picks
-  abbrev pub weightOf : Option Part → ℕ
-  weightOf none = 0
-  weightOf (some y) = weight y
+  abbrev pub weight_of : Option Part → ℕ
+  weight_of none = 0
+  weight_of (some y) = weight y
 
   pub whole_sum : (c : Class) (seen : Seen) (ys : List Part) → sum (λ y. cond (is c y) (weight y) 0) ys ≡ column (whole c) seen ys
   unfolding sum column
@@ -153,33 +153,33 @@ module _ (weight : Part → ℕ) where
   whole_sum c seen (y ∷ ys) = rw (whole_sum c (seeing y seen) ys)
 
   early-go : (c : Class) (y : Part) (ys : List Part) (seen : Seen) → Which (is c y) → Unseen c seen
-      → ((s : Seen) → Unseen c s → weightOf (nth c 0 ys) ≤ column (early c) s ys) → weightOf (nth c 0 (y ∷ ys)) ≤ column (early c) seen (y ∷ ys)
+      → ((s : Seen) → Unseen c s → weight_of (nth c 0 ys) ≤ column (early c) s ys) → weight_of (nth c 0 (y ∷ ys)) ≤ column (early c) seen (y ∷ ys)
   unfolding nth_of column
   early-go c y ys seen (holds e) h r = rw (e, h y.kind e) (omega arith)
   early-go c y ys seen (fails e) h r = rw e (omega (arith, r (seeing y seen) (unseen_on c y seen e h)))
 
-  pub early-nth : (c : Class) (ys : List Part) (seen : Seen) → Unseen c seen → weightOf (nth c 0 ys) ≤ column (early c) seen ys
+  pub early-nth : (c : Class) (ys : List Part) (seen : Seen) → Unseen c seen → weight_of (nth c 0 ys) ≤ column (early c) seen ys
   unfolding nth_of column
   early-nth c [] seen h = omega arith
   early-nth c (y ∷ ys) seen h = early-go c y ys seen (which (is c y)) h (early-nth c ys)
 
   late-go : (c : Class) (y : Part) (ys : List Part) (seen : Seen) → Which (is c y) → Known c seen
-      → ((s : Seen) → Known c s → weightOf (nth c 0 ys) ≤ column (late c) s ys) → weightOf (nth c 0 (y ∷ ys)) ≤ column (late c) seen (y ∷ ys)
+      → ((s : Seen) → Known c s → weight_of (nth c 0 ys) ≤ column (late c) s ys) → weight_of (nth c 0 (y ∷ ys)) ≤ column (late c) seen (y ∷ ys)
   unfolding nth_of column
   late-go c y ys seen (holds e) h r = rw (e, h y.kind e) (omega arith)
   late-go c y ys seen (fails e) h r = rw e (omega (arith, r (seeing y seen) (λ k f. or_true (eqb k y.kind) (seen k) (h k f))))
 
-  late-nth : (c : Class) (ys : List Part) (seen : Seen) → Known c seen → weightOf (nth c 0 ys) ≤ column (late c) seen ys
+  late-nth : (c : Class) (ys : List Part) (seen : Seen) → Known c seen → weight_of (nth c 0 ys) ≤ column (late c) seen ys
   unfolding nth_of column
   late-nth c [] seen h = omega arith
   late-nth c (y ∷ ys) seen h = late-go c y ys seen (which (is c y)) h (late-nth c ys)
 
-  pub plus-sum : (seen : Seen) (ys : List Part) → weightOf (plus_of ys) ≤ column (whole Class.Operator) seen ys
+  pub plus-sum : (seen : Seen) (ys : List Part) → weight_of (plus_of ys) ≤ column (whole Class.Operator) seen ys
   unfolding plus_of is_plus column
   plus-sum seen [] = omega arith
   plus-sum seen (y ∷ ys) = go (is Class.Operator y) (same_bytes y.text (ascii "+")) (plus-sum (seeing y seen) ys)
     where
-      go : (a b : Bool) {n : ℕ} → weightOf (plus_of ys) ≤ n → weightOf (cond (a && b) (some y) (plus_of ys)) ≤ cond a (weight y) 0 + n
+      go : (a b : Bool) {n : ℕ} → weight_of (plus_of ys) ≤ n → weight_of (cond (a && b) (some y) (plus_of ys)) ≤ cond a (weight y) 0 + n
       go true true h = omega arith
       go true false h = omega arith
       go false b h = omega arith
@@ -187,12 +187,12 @@ module _ (weight : Part → ℕ) where
   -- the second of a class that has but one kind
   module _ (c : Class) (n : ℕ) (alone : (k : ℕ) → of_kind c k ≡ true → k ≡ n) where
     second-go : (y : Part) (ys : List Part) (seen : Seen) → Which (is c y)
-        → ((s : Seen) → weightOf (nth c 1 ys) ≤ column (late c) s ys) → weightOf (nth c 1 (y ∷ ys)) ≤ column (late c) seen (y ∷ ys)
+        → ((s : Seen) → weight_of (nth c 1 ys) ≤ column (late c) s ys) → weight_of (nth c 1 (y ∷ ys)) ≤ column (late c) seen (y ∷ ys)
     unfolding nth_of column
     second-go y ys seen (holds e) r = rw e (omega (arith, late-nth c ys (seeing y seen) (λ k f. rw (eq-eqb k y.kind (rw (alone k f, alone y.kind e))) refl)))
     second-go y ys seen (fails e) r = rw e (omega (arith, r (seeing y seen)))
 
-    pub second-nth : (ys : List Part) (seen : Seen) → weightOf (nth c 1 ys) ≤ column (late c) seen ys
+    pub second-nth : (ys : List Part) (seen : Seen) → weight_of (nth c 1 ys) ≤ column (late c) seen ys
     unfolding nth_of column
     second-nth [] seen = omega arith
     second-nth (y ∷ ys) seen = second-go y ys seen (which (is c y)) (second-nth ys)

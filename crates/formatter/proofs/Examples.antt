@@ -9,7 +9,7 @@ use lib.Dec.{eqb}
 use lib.ListN.{length}
 use borrow.Author.Tests.{eqb-true}
 use Rattle.text.specs.Basic.{any, all, sum, drop_while, drop_end, same_bytes, starts_with, count, All, ∅, ◌▹◌}
-use Rattle.text.specs.Text.{follows, after_byte, valid_from, trim_end, trim, lines as textLines, padding, chars, lead, is_white, white_space, utf8, is_pad}
+use Rattle.text.specs.Text.{follows, after_byte, valid_from, trim_end, trim, lines as text_lines, padding, chars, lead, is_white, white_space, utf8, is_pad}
 use Rattle.text.proofs.Lists.{and_true}
 use Rattle.items.specs.Item.{Item, none as nothing, say, says, lit, when, keeping, with_number, open_run, ◌⨟◌}
 use Rattle.numbers.specs.declared.mode.Mode.TheVariants.{Plain, Keeping}
@@ -24,7 +24,7 @@ use Rattle.children.specs.Reading.{between, pass, step, behind, up_to, newlines_
 use Rattle.plan.specs.Comments.{comments}
 use Rattle.printer.specs.Layout.{rows, pick}
 use Rattle.printer.specs.Combine.{comma, test_of, bracketed}
-use Rattle.printer.specs.Print.{shared, indented, partOr, what, row, withComments, children, list, localOf, statement, statements, statementsOf, values, values_of, expression, element, prints, source_of, source, source_file}
+use Rattle.printer.specs.Print.{shared, indented, part_or, what, row, with_comments, children, list, local_of, statement, statements, statements_of, values, values_of, expression, element, prints, source_of, source, source_file}
 use Rattle.items.specs.Lines.{digits, decimal, described, record_lines, kind_names}
 use Rattle.listing.specs.Listing.{head_line, listing}
 use Rattle.listing.specs.Examples.{one_items}
@@ -34,12 +34,12 @@ use Rattle.formatter.specs.Examples.{Example, result, same_items, gives, passes,
 use Rattle.formatter.proofs.Responses.{blank-long}
 
 computed : all passes examples ≡ true
-unfolding examples all same_bytes words bytes any drop_while drop_end starts_with count sum flatten follows after_byte valid_from trim_end trim textLines padding chars lead is_white white_space utf8 is_pad ◌⨟◌ nothing say says lit when keeping with_number open_run Comments.comment multi_line single_line block_of block_lines immediate common common_padding unpadded tabbed one_line on_one_line many_lines le16 le32 count_n count_b texts_of elements elements_of forest texts parts kinds one_of nth_of between pass step behind up_to newlines_before newlines_back strict trivia_before trivia_after comments rows pick comma test_of bracketed shared indented partOr what row withComments children list statement statements statementsOf values values_of expression element prints source_of source source_file wrong_length out_of_limits first_where unknown_kind misplaced misplaced_after first_misplaced node_with_text wrong_sizes not_utf8 string_block misformed first_nameless tests first_refusal refusal from_printing from_tests verdict
+unfolding examples all same_bytes words bytes any drop_while drop_end starts_with count sum flatten follows after_byte valid_from trim_end trim text_lines padding chars lead is_white white_space utf8 is_pad ◌⨟◌ nothing say says lit when keeping with_number open_run Comments.comment multi_line single_line block_of block_lines immediate common common_padding unpadded tabbed one_line on_one_line many_lines le16 le32 count_n count_b texts_of elements elements_of forest texts parts kinds one_of nth_of between pass step behind up_to newlines_before newlines_back strict trivia_before trivia_after comments rows pick comma test_of bracketed shared indented part_or what row with_comments children list statement statements statements_of values values_of expression element prints source_of source source_file wrong_length out_of_limits first_where unknown_kind misplaced misplaced_after first_misplaced node_with_text wrong_sizes not_utf8 string_block misformed first_nameless tests first_refusal refusal from_printing from_tests verdict
 computed = refl
 
 -- every tree prints what is said of it in both modes
 both-computed : all passes_both in_both ≡ true
-unfolding in_both all same_bytes words bytes any drop_while drop_end starts_with count sum flatten follows after_byte valid_from trim_end trim textLines padding chars lead is_white white_space utf8 is_pad ◌⨟◌ nothing say says lit when keeping Comments.comment multi_line error_items single_line block_of block_lines immediate on_one_line le16 le32 count_n count_b texts_of elements elements_of forest texts parts kinds one_of nth_of between pass step behind up_to newlines_before newlines_back strict trivia_before trivia_after comments rows pick partOr what row localOf statement statements statementsOf values values_of expression element prints source_of source source_file wrong_length out_of_limits first_where unknown_kind misplaced misplaced_after first_misplaced node_with_text wrong_sizes not_utf8 string_block misformed first_nameless no_ident tests first_refusal refusal from_printing from_tests verdict
+unfolding in_both all same_bytes words bytes any drop_while drop_end starts_with count sum flatten follows after_byte valid_from trim_end trim text_lines padding chars lead is_white white_space utf8 is_pad ◌⨟◌ nothing say says lit when keeping Comments.comment multi_line error_items single_line block_of block_lines immediate on_one_line le16 le32 count_n count_b texts_of elements elements_of forest texts parts kinds one_of nth_of between pass step behind up_to newlines_before newlines_back strict trivia_before trivia_after comments rows pick part_or what row local_of statement statements statements_of values values_of expression element prints source_of source source_file wrong_length out_of_limits first_where unknown_kind misplaced misplaced_after first_misplaced node_with_text wrong_sizes not_utf8 string_block misformed first_nameless no_ident tests first_refusal refusal from_printing from_tests verdict
 both-computed = refl
 
 same_true : (xs ys : List ℕ) → same_bytes xs ys ≡ true → xs ≡ ys

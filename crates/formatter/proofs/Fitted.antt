@@ -4,7 +4,7 @@ use Prim.Native.Nat.{ℕ, ◌≤◌, ◌<◌, ◌^◌}
 use native.Mathlib.Omega.{arith}
 use lib.ListN.{length, length-append}
 use Rattle.text.specs.Basic.{sum, All, ∅, ◌▹◌}
-use Rattle.items.specs.Item.{always, lines, Item, Context, signal, text, mark, run, runEnd, again, if_test}
+use Rattle.items.specs.Item.{always, lines, Item, Context, signal, text, mark, run, run_end, again, if_test}
 use Rattle.items.specs.Role.{Role, stays, marks, opens, closes, repeats, role, is_run, is_mark}
 use Rattle.items.specs.Records.{bytes_of, bytes}
 use Rattle.items.proofs.Fits.{Short, Fits, items_of}
@@ -21,7 +21,7 @@ short (text s) h k = omega arith
 short (signal s) h k = omega arith
 short (mark n) h k = omega arith
 short (run n) h k = omega arith
-short (runEnd n) h k = omega arith
+short (run_end n) h k = omega arith
 short (again n) h k = omega arith
 short (if_test always) h k = omega arith
 short (if_test (lines n)) h k = omega arith

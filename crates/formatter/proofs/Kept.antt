@@ -9,13 +9,13 @@ use borrow.Author.Tests.{not-true}
 use Rattle.text.specs.Basic.{present}
 use Rattle.numbers.specs.declared.mode.Mode.TheVariants.{Keeping}
 use Rattle.items.specs.Item.{Item, Out, stop, ok, in_mode, Print, after, next, ◌⨟◌, none, says, stopped, when, keeping}
-use Rattle.comments.specs.Comments.{Location, above_item, endOfItems, comment, single_line, multi_line, block_of, on_one_line}
+use Rattle.comments.specs.Comments.{Location, above_item, end_of_items, comment, single_line, multi_line, block_of, on_one_line}
 use Rattle.tree.specs.Tree.{Part}
 use Rattle.tree.specs.declared.class.Class.{Class}
 use Rattle.tree.specs.Class.{is, kinds, one_of, of_kind, all_of}
 use Rattle.children.specs.Reading.{Child, Ending, Reading, foreign, read, Pass, closed, child_from, wait, add_inline, inline_trivia, take_child, take_trivia, take_other, step, on, foreign_at, onward, pass, start, between, up_to}
 use Rattle.plan.specs.Comments.{comments}
-use Rattle.printer.specs.Print.{statement, statements, statementsOf, expression}
+use Rattle.printer.specs.Print.{statement, statements, statements_of, expression}
 use Rattle.formatter.specs.Kept.{notes_of, noted_items, trivia, Among, end, here, past}
 use Rattle.formatter.proofs.Tests.{every, class-all}
 
@@ -76,13 +76,13 @@ unfolding ◌⨟◌
 
 -- ---- the statements of an expression
 
-block-place : (doc now : Bool) (ls : List (List ℕ)) → block_of doc now ls above_item ≡ block_of doc now ls endOfItems
+block-place : (doc now : Bool) (ls : List (List ℕ)) → block_of doc now ls above_item ≡ block_of doc now ls end_of_items
 unfolding block_of on_one_line
 block-place doc now [] = refl
 block-place doc now (l ∷ ls) = refl
 
 -- a comment at the end of items is printed as above an item
-end-place : (k : ℕ) (s : List ℕ) → comment k s above_item ≡ comment k s endOfItems
+end-place : (k : ℕ) (s : List ℕ) → comment k s above_item ≡ comment k s end_of_items
 unfolding comment single_line multi_line
 end-place k s = rw block-place
 
@@ -121,10 +121,10 @@ module _ (pr : ℕ → Print) where
   statements-printed [] = anything none
   statements-printed (c ∷ cs) =
       rw (noted-append c.before, noted-append c.inline, ← append_assoc (noted_items c.before))
-      ((kept-printed above_item (λ k s. refl) c.before ⊕ anything (pr c.value.number) ⊕ kept-printed endOfItems end-place c.inline) ⊕ statements-printed cs)
+      ((kept-printed above_item (λ k s. refl) c.before ⊕ anything (pr c.value.number) ⊕ kept-printed end_of_items end-place c.inline) ⊕ statements-printed cs)
 
-  left-printed : (cs : List Child) (ts : List Part) → Prints (noted_items (notes_of cs ts)) (statements pr cs ⨟ keeping (comments ts endOfItems))
-  left-printed cs ts = rw (notes-more cs [] ts, noted-append (notes_of cs []) ts) (statements-printed cs ⊕ kept-printed endOfItems end-place ts)
+  left-printed : (cs : List Child) (ts : List Part) → Prints (noted_items (notes_of cs ts)) (statements pr cs ⨟ keeping (comments ts end_of_items))
+  left-printed cs ts = rw (notes-more cs [] ts, noted-append (notes_of cs []) ts) (statements-printed cs ⊕ kept-printed end_of_items end-place ts)
 
   -- in the keeping mode an expression prints all that its reading of statements has read beside them, in its order
   pub statements-kept : (ps : List Part) (base : Option Part) {cs : List Child} {e : Ending} → between Class.Stmt nothing base nothing ps ≡ read cs e
@@ -132,7 +132,7 @@ module _ (pr : ℕ → Print) where
   statements-kept ps base {cs} {e} h k i = among (printed.has k) i
     where
       printed : Prints (noted_items (notes_of cs e.trivia)) (expression pr ps base)
-      printed = unfold expression statementsOf in (rw (h, ← append-nil (noted_items (notes_of cs e.trivia))) (left-printed cs e.trivia ⊕ anything _))
+      printed = unfold expression statements_of in (rw (h, ← append-nil (noted_items (notes_of cs e.trivia))) (left-printed cs e.trivia ⊕ anything _))
 
 -- ---- the tokens of a reading
 
@@ -262,7 +262,7 @@ apart-stmt x h = not-true (is Class.Trivia x) (class-all Class.Stmt (λ k. not (
 -- in the keeping mode an expression prints every comment that stands before its base, in its order: before, between and behind its statements
 pub comments_survive : (pr : ℕ → Print) (ps : List Part) (base : Part) (k : ℕ) {xs : List Item} {n : ℕ} → expression pr ps (some base) (in_mode Keeping) k ≡ ok xs n
     → Among (noted_items (trivia (up_to base.number ps))) xs
-unfolding expression statementsOf stopped ◌⨟◌ between all_of notes_of
+unfolding expression statements_of stopped ◌⨟◌ between all_of notes_of
 comments_survive pr ps base k {xs} {n} h = go (between Class.Stmt nothing (some base) nothing ps) refl
   where
     before : List Part

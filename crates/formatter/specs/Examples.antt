@@ -3,11 +3,11 @@ use Rattle.std.specs.Prelude.{Bool, false, ◌&&◌, ℕ, ◌/◌, ◌%◌, leng
 use mathlib.Core.List.{List, [], ◌∷◌, ◌++◌, map, flatten}
 use Prim.Native.String.{String}
 use Rattle.text.specs.Basic.{ascii, same_bytes}
-use Rattle.items.specs.Item.{Test, always, lines, Item, text, newline, space_or_newline, mark, group, group_end, block, block_end, run, runEnd, again, if_test, else_item, end_if}
+use Rattle.items.specs.Item.{Test, always, lines, Item, text, newline, space_or_newline, mark, group, group_end, block, block_end, run, run_end, again, if_test, else_item, end_if}
 use Rattle.numbers.specs.declared.mode.Mode.TheVariants.{Plain, Keeping}
 use Rattle.items.specs.Records.{words, bytes}
 use Rattle.comments.specs.Comments
-use Rattle.comments.specs.Comments.{Location, above_item, itemInline}
+use Rattle.comments.specs.Comments.{Location, above_item, item_inline}
 use Rattle.listing.specs.Examples.{one_items}
 use Rattle.formatter.specs.Answer.{Verdict, turned_away, printed, verdict}
 
@@ -82,7 +82,7 @@ t s = text (ascii s)
 abbrev around : Test → List Item → List Item
 around w xs =
     t "[" ∷ mark 0 ∷ if_test w ∷ block ∷ newline ∷ run 0 ∷ group ∷ group
-    ∷ xs ++ (group_end ∷ group_end ∷ runEnd 0 ∷ block_end ∷ else_item ∷ t " " ∷ again 0 ∷ end_if ∷ t "]" ∷ mark 1 ∷ newline ∷ [])
+    ∷ xs ++ (group_end ∷ group_end ∷ run_end 0 ∷ block_end ∷ else_item ∷ t " " ∷ again 0 ∷ end_if ∷ t "]" ∷ mark 1 ∷ newline ∷ [])
 
 abbrev separator : Test → List Item
 separator w = if_test w ∷ newline ∷ else_item ∷ space_or_newline ∷ end_if ∷ []
@@ -101,11 +101,11 @@ examples =
     ∷ ex "A" (comment 65 "/**/" above_item) []
     ∷ ex "B" (comment 65 "/***/" above_item) []
     ∷ ex "C" (comment 65 "/* pump */" above_item) (t "/* " ∷ t "pump" ∷ t " */" ∷ newline ∷ [])
-    ∷ ex "D" (comment 65 "/* pump */" itemInline) (t " " ∷ t "/* " ∷ t "pump" ∷ t " */" ∷ [])
+    ∷ ex "D" (comment 65 "/* pump */" item_inline) (t " " ∷ t "/* " ∷ t "pump" ∷ t " */" ∷ [])
     ∷ ex "E" (comment 65 "/****/" above_item) (t "/*" ∷ t "*" ∷ newline ∷ t " *" ∷ t " " ∷ t "*" ∷ newline ∷ t " " ∷ t "*/" ∷ newline ∷ [])
     ∷ ex "F" (comment 65 "/*a\n\n  b*/" above_item) (t "/*" ∷ newline ∷ t "a" ∷ newline ∷ newline ∷ t "  b" ∷ newline ∷ t "*/" ∷ newline ∷ [])
     ∷ ex "G" (comment 65 "/*\n  a\n    b\n*/" above_item) (t "/*" ∷ newline ∷ t "a" ∷ newline ∷ t "  b" ∷ newline ∷ t "*/" ∷ newline ∷ [])
-    ∷ ex "H" (comment 68 "#  k " itemInline) (t " " ∷ t "# " ∷ t "k" ∷ [])
+    ∷ ex "H" (comment 68 "#  k " item_inline) (t " " ∷ t "# " ∷ t "k" ∷ [])
     ∷ ex "I" (array []) (t "[ ]" ∷ newline ∷ [])
     ∷ ex "J" (array (token 64 3 " " ∷ [])) (around (lines 0) [])
     ∷ ex "K, two newlines" (array (number "1" ++ (token 94 3 "," ∷ token 64 3 "\n\n" ∷ number "2"))) (around always (t "1" ∷ t "," ∷ separator always ++ (newline ∷ final "2" always)))

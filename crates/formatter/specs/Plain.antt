@@ -6,7 +6,7 @@ use Prim.Native.String.{String}
 use Rattle.text.specs.Basic.{ascii, is_nil}
 use Rattle.items.specs.Item.{Test, lines, text, newline, indent, outdent, block, block_end, Print, ◌⨟◌, none, say, stopped, lit, when, keeping, starting_at, signal}
 use Rattle.formatter.specs.PlainCombine.{newline_if, either, only_if, grouped, comma, separator, ending, test_of, bracketed}
-use Rattle.comments.specs.Comments.{above_item, itemInline, endOfItems}
+use Rattle.comments.specs.Comments.{above_item, item_inline, end_of_items}
 use Rattle.tree.specs.Tree.{Forest, nil, tree, Part, texts, parts}
 use Rattle.tree.specs.declared.class.Class.{Class}
 use Rattle.tree.specs.Class.{is, nth, first, plus_of}
@@ -16,10 +16,10 @@ use Rattle.printer.specs.Layout.{What, txt, bare, part, opt, each, plus, Piece, 
 
 -- the body of list k in both branches: 'which prints the body anew in each branch', with the numbers behind k in each
 unfoldable pub twice : ℕ → Test → Print → Print → Print → Print
-twice k t body inMany inOne =
+twice k t body in_many in_one =
     either t
-    (say block ⨟ say newline ⨟ starting_at (suc k) body ⨟ say block_end ⨟ inMany)
-    (inOne ⨟ starting_at (suc k) body)
+    (say block ⨟ say newline ⨟ starting_at (suc k) body ⨟ say block_end ⨟ in_many)
+    (in_one ⨟ starting_at (suc k) body)
 
 -- with_indent_eoi
 unfoldable pub indented : ℕ → Test → Print → Ending → Print
@@ -30,26 +30,26 @@ module _ (pr : ℕ → Print) where
   -- ROWS
 
   -- a part, or else p: `Option<P>::print`, 'An absent part prints `/*missing Expr*/` and so on', and `if let Some(..)`
-  unfoldable pub partOr : Print → Option Part → Print
-  partOr p nothing = p
-  partOr p (some x) = pr x.number
+  unfoldable pub part_or : Print → Option Part → Print
+  part_or p nothing = p
+  part_or p (some x) = pr x.number
 
   -- a `for` over all parts of a class
-  unfoldable pub eachOf : Class → String → Bool → List Part → Print
-  eachOf c front ended [] = none
-  eachOf c front ended (x ∷ xs) =
+  unfoldable pub each_of : Class → String → Bool → List Part → Print
+  each_of c front ended [] = none
+  each_of c front ended (x ∷ xs) =
       cond (is c x)
-      (when (not (is_nil (ascii front))) (lit front) ⨟ pr x.number ⨟ when ended (lit "," ⨟ say newline) ⨟ eachOf c front ended xs)
-      (eachOf c front ended xs)
+      (when (not (is_nil (ascii front))) (lit front) ⨟ pr x.number ⨟ when ended (lit "," ⨟ say newline) ⨟ each_of c front ended xs)
+      (each_of c front ended xs)
 
   -- one piece of a row, for a node with these parts
   unfoldable pub what : List Part → What → Print
   what ps (txt a) = lit a
   what ps (bare x) = say (signal x)
-  what ps (part w missing) = partOr (lit missing) (nth w.class w.place ps)
-  what ps (opt c) = partOr none (first c ps)
-  what ps (each c front ended) = eachOf c front ended ps
-  what ps plus = partOr none (plus_of ps)
+  what ps (part w missing) = part_or (lit missing) (nth w.class w.place ps)
+  what ps (opt c) = part_or none (first c ps)
+  what ps (each c front ended) = each_of c front ended ps
+  what ps plus = part_or none (plus_of ps)
 
   -- the pieces of a row that are asked for
   unfoldable pub row : List Part → List Piece → Print
@@ -59,13 +59,13 @@ module _ (pr : ℕ → Print) where
   -- LISTS
 
   -- a child with its comments, and what follows it on its line
-  unfoldable pub withComments : Child → Print → Print
-  withComments c p = newline_if c.blank_line ⨟ comments c.before above_item ⨟ pr c.value.number ⨟ p ⨟ comments c.inline itemInline
+  unfoldable pub with_comments : Child → Print → Print
+  with_comments c p = newline_if c.blank_line ⨟ comments c.before above_item ⨟ pr c.value.number ⨟ p ⨟ comments c.inline item_inline
 
   -- a list's children, with what follows each on its line and behind that; both know whether more children follow
   unfoldable pub children : (Bool → Print) → (Bool → Print) → List Child → Print
   children on_line behind_it [] = none
-  children on_line behind_it (c ∷ cs) = withComments c (on_line (more cs)) ⨟ behind_it (more cs) ⨟ children on_line behind_it cs
+  children on_line behind_it (c ∷ cs) = with_comments c (on_line (more cs)) ⨟ behind_it (more cs) ⨟ children on_line behind_it cs
 
   -- `ExprArray::print`, `ObjBodyMemberList`: gen_elements, gen_members
   unfoldable pub list : String → String → String → Reading → Print
@@ -85,9 +85,9 @@ module _ (pr : ℕ → Print) where
       twice k t (grouped (children (λ m. comma m t) (λ m. when m (separator t)) cs)) (say newline) none ⨟ ending e
 
   -- `ObjBodyComp`, gen_obj_comp, from its members and the reading of its CompSpecs
-  unfoldable pub compBody : List Child → Ending → Reading → Print
-  compBody ms me (foreign n) = stopped n
-  compBody ms me (read cs e) =
+  unfoldable pub comp_body : List Child → Ending → Reading → Print
+  comp_body ms me (foreign n) = stopped n
+  comp_body ms me (read cs e) =
       bracketed "{" "}" λ k.
       let t = test_of (any_many_lines ms || (any_many_lines cs || (me.blank_line || e.blank_line))) k in
       let members = children (λ m. only_if t (lit ",")) (λ m. separator t) ms in
@@ -95,34 +95,34 @@ module _ (pr : ℕ → Print) where
       indented k t (grouped (members ⨟ newline_if me.blank_line ⨟ specs)) e
 
   -- `ObjBodyComp` from the reading of its members
-  unfoldable pub compOf : List Part → Reading → Print
-  compOf ps (foreign n) = stopped n
-  compOf ps (read ms me) = compBody ms me (comp_specs me ps)
+  unfoldable pub comp_of : List Part → Reading → Print
+  comp_of ps (foreign n) = stopped n
+  comp_of ps (read ms me) = comp_body ms me (comp_specs me ps)
 
   -- `ObjBodyComp` with number n from its first CompSpec: 'an object comprehension without a CompSpec'
   unfoldable pub comprehension : ℕ → List Part → Option Part → Print
   comprehension n ps nothing = stopped n
-  comprehension n ps (some spec) = compOf ps (comp_members spec ps)
+  comprehension n ps (some spec) = comp_of ps (comp_members spec ps)
 
   -- LOCALS
 
   -- `StmtLocal` with no bind, or with several
-  unfoldable pub manyBinds : List Child → Ending → Print
-  manyBinds cs e = lit "local" ⨟ say indent ⨟ say newline ⨟ children (λ m. lit ",") (λ m. say newline) cs ⨟ ending e ⨟ say outdent
+  unfoldable pub many_binds : List Child → Ending → Print
+  many_binds cs e = lit "local" ⨟ say indent ⨟ say newline ⨟ children (λ m. lit ",") (λ m. say newline) cs ⨟ ending e ⨟ say outdent
 
   -- `StmtLocal`: with one bind only the comments before it are printed
-  unfoldable pub localOf : Reading → Print
-  localOf (foreign n) = stopped n
-  localOf (read [] e) = manyBinds [] e
-  localOf (read (c ∷ []) e) = comments c.before above_item ⨟ lit "local " ⨟ pr c.value.number
-  localOf (read (c ∷ d ∷ cs) e) = manyBinds (c ∷ d ∷ cs) e
+  unfoldable pub local_of : Reading → Print
+  local_of (foreign n) = stopped n
+  local_of (read [] e) = many_binds [] e
+  local_of (read (c ∷ []) e) = comments c.before above_item ⨟ lit "local " ⨟ pr c.value.number
+  local_of (read (c ∷ d ∷ cs) e) = many_binds (c ∷ d ∷ cs) e
 
   -- EXPRESSIONS
 
   -- a statement: 'Comments around a statement .. of an Expr are read and not printed'; in the keeping mode 'an Expr prints each statement's before-trivia above it, its inline trivia
   -- after it at the end-of-items place'
   unfoldable pub statement : Child → Print
-  statement c = keeping (comments c.before above_item) ⨟ pr c.value.number ⨟ keeping (comments c.inline endOfItems)
+  statement c = keeping (comments c.before above_item) ⨟ pr c.value.number ⨟ keeping (comments c.inline end_of_items)
 
   -- statements in turn; 'blank lines around statements, are still dropped'
   unfoldable pub statements : List Child → Print
@@ -130,9 +130,9 @@ module _ (pr : ℕ → Print) where
   statements (c ∷ cs) = statement c ⨟ statements cs
 
   -- the statements of a reading, 'and the trivia left before the base expression at the same place before that base (or its missing text)'
-  unfoldable pub statementsOf : Reading → Print
-  statementsOf (foreign n) = stopped n
-  statementsOf (read cs e) = statements cs ⨟ keeping (comments e.trivia endOfItems)
+  unfoldable pub statements_of : Reading → Print
+  statements_of (foreign n) = stopped n
+  statements_of (read cs e) = statements cs ⨟ keeping (comments e.trivia end_of_items)
 
   -- suffixes in turn: 'Comments around a .. suffix of an Expr are read and not printed', in the keeping mode too: 'Suffix comments .. are still dropped'
   unfoldable pub values : List Child → Print
@@ -147,8 +147,8 @@ module _ (pr : ℕ → Print) where
   -- `Expr::print`: statements, the expression at its base, suffixes
   unfoldable pub expression : List Part → Option Part → Print
   expression ps base =
-      statementsOf (between Class.Stmt nothing base nothing ps)
-      ⨟ partOr (lit "/*missing ExprBase*/") base
+      statements_of (between Class.Stmt nothing base nothing ps)
+      ⨟ part_or (lit "/*missing ExprBase*/") base
       ⨟ values_of (between Class.Suffix base nothing nothing ps)
 
   -- `Printable::print` of an element: its kind, its number, its own text, the joined texts below it, and its parts; 'Visibility prints all its token texts joined'
@@ -158,7 +158,7 @@ module _ (pr : ℕ → Print) where
       (cond (eqb k 56) (say (text below))
       (cond (eqb k 2) (expression ps (first Class.ExprBase ps))
       (cond (eqb k 10) (list "[ ]" "[" "]" (enclosed Class.Expr Class.LBrack Class.RBrack ps))
-      (cond (eqb k 22) (localOf (enclosed Class.Bind Class.Local Class.Semi ps) ⨟ lit ";" ⨟ say newline)
+      (cond (eqb k 22) (local_of (enclosed Class.Bind Class.Local Class.Semi ps) ⨟ lit ";" ⨟ say newline)
       (cond (eqb k 26) (comprehension n ps (first Class.CompSpec ps))
       (cond (eqb k 27) (list "{ }" "{" "}" (enclosed Class.Member Class.LBrace Class.RBrace ps))
       (cond (eqb k 47) (arguments (enclosed Class.Arg Class.LParen Class.RParen ps))
@@ -178,11 +178,11 @@ prints (tree e kids rest) n =
 unfoldable pub source_of : Around → Around → Print → Print
 source_of (foreign_at n) after p = stopped n
 source_of (trivia b) (foreign_at n) p = stopped n
-source_of (trivia b) (trivia a) p = comments b above_item ⨟ p ⨟ say newline ⨟ comments a endOfItems
+source_of (trivia b) (trivia a) p = comments b above_item ⨟ p ⨟ say newline ⨟ comments a end_of_items
 
 -- `SourceFile::print` from its parts and its expression
 unfoldable pub source : (ℕ → Print) → List Part → Option Part → Print
-source pr ps x = source_of (trivia_before x ps) (trivia_after x ps) (partOr pr (lit "/*missing Expr*/") x)
+source pr ps x = source_of (trivia_before x ps) (trivia_after x ps) (part_or pr (lit "/*missing Expr*/") x)
 
 -- the plain printing of a source file: 'It has a definition of its own over the tree'
 unfoldable pub plain_file : Forest → Print

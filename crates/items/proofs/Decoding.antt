@@ -7,7 +7,7 @@ use native.Mathlib.Omega.{arith}
 use lib.ListN.{length, length-append}
 use lib.Seq.{drop-append_seam, take-append_seam}
 use borrow.Author.Tests.{le-leb}
-use Rattle.items.specs.Item.{always, lines, Item, signal, text, mark, run, runEnd, again, if_test}
+use Rattle.items.specs.Item.{always, lines, Item, signal, text, mark, run, run_end, again, if_test}
 use Rattle.items.specs.Records.{record_of, bytes_of, words, bytes, stored, item_of, decoded, record_size}
 use Rattle.items.proofs.Signals.{plain}
 
@@ -22,7 +22,7 @@ record_is p r (text s) = stored_is p s r
 record_is p r (signal s) = (plain s).decodes (p ++ ([] ++ r))
 record_is p r (mark m) = refl
 record_is p r (run m) = refl
-record_is p r (runEnd m) = refl
+record_is p r (run_end m) = refl
 record_is p r (again m) = refl
 record_is p r (if_test always) = refl
 record_is p r (if_test (lines m)) = refl

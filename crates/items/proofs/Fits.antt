@@ -13,7 +13,7 @@ use Rattle.text.specs.Basic.{all, All, ∅, ◌▹◌}
 use Rattle.items.specs.declared.Printed.{Printed}
 use Rattle.items.specs.declared.Printed.TheVariants.{Done, Full}
 use Rattle.items.specs.declared.Size.{Size}
-use Rattle.items.specs.Item.{always, lines, Item, signal, text, mark, runEnd, again, if_test, Out, stop, ok, run as opening}
+use Rattle.items.specs.Item.{always, lines, Item, signal, text, mark, run_end, again, if_test, Out, stop, ok, run as opening}
 use Rattle.items.specs.Lines.{record_line, record_lines}
 use Rattle.items.specs.Records.{record_of, bytes_of, words, bytes, overlaid, record_size}
 use Rattle.items.specs.Machine.{State, store, counted, fit, printable, all_fit, sized, no_size, Puts, emitted, emit_all, full, reached, printing, seen, held, Says}
@@ -70,7 +70,7 @@ short_at at (text s) h k = (h, k.1)
 short_at at (signal s) h k = k
 short_at at (mark n) h k = k
 short_at at (opening n) h k = k
-short_at at (runEnd n) h k = k
+short_at at (run_end n) h k = k
 short_at at (again n) h k = k
 short_at at (if_test always) h k = k
 short_at at (if_test (lines n)) h k = k

@@ -10,7 +10,7 @@ use borrow.Author.Tests.{leb-true, eq-eqb, ne_eqb}
 use Rattle.text.specs.Basic.{ascii, All, ∅, all, ◌▹◌}
 use Rattle.text.proofs.Lists.{and_true}
 use Rattle.text.specs.Words.{word_in}
-use Rattle.items.specs.Item.{always, lines, Item, signal, text, mark, run, runEnd, again, if_test, signal_kind}
+use Rattle.items.specs.Item.{always, lines, Item, signal, text, mark, run, run_end, again, if_test, signal_kind}
 use Rattle.items.specs.Lines.{decimal, field, described, record_line, record_lines, kind_names}
 use Rattle.items.proofs.Decimals.{decimal-short}
 use Rattle.items.specs.Names.{name_at, described_length, line_length, names_of, other_names, has_number}
@@ -92,7 +92,7 @@ described-length at (text s) = rw (length-append (field "text" (length s)) (32 �
 described-length at (signal s) = (plain s).named
 described-length at (mark n) = refl
 described-length at (run n) = refl
-described-length at (runEnd n) = refl
+described-length at (run_end n) = refl
 described-length at (again n) = refl
 described-length at (if_test always) = refl
 described-length at (if_test (lines n)) = refl
@@ -106,7 +106,7 @@ described-short (text s) h = omega (arith, decimal-short (length s) h.1, length-
 described-short (signal s) h = omega (arith, short_in kind_names (signal_kind s) (shorts Kinds))
 described-short (mark n) h = omega (arith, decimal-short n h.0)
 described-short (run n) h = omega (arith, decimal-short n h.0)
-described-short (runEnd n) h = omega (arith, decimal-short n h.0)
+described-short (run_end n) h = omega (arith, decimal-short n h.0)
 described-short (again n) h = omega (arith, decimal-short n h.0)
 described-short (if_test always) h = omega arith
 described-short (if_test (lines n)) h = omega (arith, decimal-short n h.1)

@@ -24,7 +24,7 @@ pub data Item : Type 0 where
   text : List ℕ → Item
   signal : Signal → Item
   mark : ℕ → Item
-  run runEnd again : ℕ → Item
+  run run_end again : ℕ → Item
   if_test : Test → Item
 
 -- the kind of an item without operands: '2 newline' to '6 outdent', '8 group' to '11 block-end', '16 else', '17 end-if'
@@ -95,7 +95,7 @@ unfoldable pub plain_item : ℕ → ℕ → Item
 plain_item k n =
     cond (eqb k 7) (mark n)
     (cond (eqb k 12) (run n)
-    (cond (eqb k 13) (runEnd n)
+    (cond (eqb k 13) (run_end n)
     (cond (eqb k 14) (again n)
     (cond (eqb k 15) (if_test always)
     (cond (eqb k 18) (if_test (lines n))

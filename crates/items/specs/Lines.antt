@@ -3,7 +3,7 @@ use Rattle.std.specs.Prelude.{cond, List, [], ◌∷◌, ◌++◌, ℕ, zero, su
 use Prim.Native.String.{String}
 use Rattle.text.specs.Basic.{ascii}
 use Rattle.text.specs.Words.{word_in}
-use Rattle.items.specs.Item.{always, lines, Item, signal, text, mark, run, runEnd, again, if_test, signal_kind}
+use Rattle.items.specs.Item.{always, lines, Item, signal, text, mark, run, run_end, again, if_test, signal_kind}
 
 -- the decimal digits of n, where it has at most d + 1 of them
 unfoldable pub digits : ℕ → ℕ → List ℕ
@@ -31,7 +31,7 @@ described (text s) = field "text" (length s) ++ (32 ∷ s)
 described (signal s) = ascii (word_in kind_names (signal_kind s))
 described (mark n) = field "mark" n
 described (run n) = field "run" n
-described (runEnd n) = field "run-end" n
+described (run_end n) = field "run-end" n
 described (again n) = field "again" n
 described (if_test always) = ascii "if always"
 described (if_test (lines n)) = field "if lines" n

@@ -2,7 +2,7 @@
 use Rattle.std.specs.Prelude.{cond, ◌&&◌, List, [], ◌∷◌, ◌++◌, ℕ, zero, suc, ◌+◌, leb, eqb, length, drop, take}
 use Rattle.std.proofs.Math.Option.{Option, none, some}
 use Rattle.items.specs.declared.Count.{Count}
-use Rattle.items.specs.Item.{always, lines, Item, signal, text, newline, space_or_newline, tab, indent, outdent, mark, group, group_end, block, block_end, run, runEnd, again, if_test, else_item, end_if, signal_kind}
+use Rattle.items.specs.Item.{always, lines, Item, signal, text, newline, space_or_newline, tab, indent, outdent, mark, group, group_end, block, block_end, run, run_end, again, if_test, else_item, end_if, signal_kind}
 use Rattle.items.specs.Role.{runs_of, marks_of}
 
 -- 'Three u32 each': the words of a record
@@ -25,7 +25,7 @@ record_of at (text s) = three 1 at (length s)
 record_of at (signal s) = three (signal_kind s) 0 0
 record_of at (mark n) = three 7 n 0
 record_of at (run n) = three 12 n 0
-record_of at (runEnd n) = three 13 n 0
+record_of at (run_end n) = three 13 n 0
 record_of at (again n) = three 14 n 0
 record_of at (if_test always) = three 15 0 0
 record_of at (if_test (lines n)) = three 15 1 n
@@ -36,7 +36,7 @@ bytes_of (text s) = s
 bytes_of (signal s) = []
 bytes_of (mark n) = []
 bytes_of (run n) = []
-bytes_of (runEnd n) = []
+bytes_of (run_end n) = []
 bytes_of (again n) = []
 bytes_of (if_test t) = []
 
@@ -93,7 +93,7 @@ item_of ts k a b =
     (cond (eqb k 10) (bare block a b)
     (cond (eqb k 11) (bare block_end a b)
     (cond (eqb k 12) (with_operand run a b)
-    (cond (eqb k 13) (with_operand runEnd a b)
+    (cond (eqb k 13) (with_operand run_end a b)
     (cond (eqb k 14) (with_operand again a b)
     (cond (eqb k 15) (condition a b)
     (cond (eqb k 16) (bare else_item a b)

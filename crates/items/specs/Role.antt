@@ -1,7 +1,7 @@
 -- What an item means for the counts of runs and marks, and for putting bodies back.
 use Rattle.std.specs.Prelude.{List, ℕ}
 use Rattle.text.specs.Basic.{sum}
-use Rattle.items.specs.Item.{Item, signal, text, mark, run, runEnd, again, if_test}
+use Rattle.items.specs.Item.{Item, signal, text, mark, run, run_end, again, if_test}
 
 -- What an item means for putting back and for the counts.
 pub data Role : Type 0 where
@@ -14,7 +14,7 @@ role (text s) = stays
 role (signal s) = stays
 role (mark n) = marks
 role (run k) = opens k
-role (runEnd k) = closes k
+role (run_end k) = closes k
 role (again k) = repeats k
 role (if_test t) = stays
 

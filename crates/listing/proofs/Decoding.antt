@@ -11,7 +11,7 @@ use lib.Seq.{length-take-le}
 use borrow.Author.Tests.{leb-true, eqb-true}
 use Rattle.text.specs.Basic.{within}
 use Rattle.text.proofs.Lists.{and_true}
-use Rattle.items.specs.Item.{always, lines, Item, text, newline, space_or_newline, tab, indent, outdent, mark, group, group_end, block, block_end, run, runEnd, again, if_test, else_item, end_if}
+use Rattle.items.specs.Item.{always, lines, Item, text, newline, space_or_newline, tab, indent, outdent, mark, group, group_end, block, block_end, run, run_end, again, if_test, else_item, end_if}
 use Rattle.items.specs.Records.{bare, with_operand, condition, stored, item_of}
 use Rattle.items.specs.Lines.{described, kind_names}
 use Rattle.items.specs.Names.{other_names, names_of, name_at}
@@ -89,7 +89,7 @@ module _ (ts : List ℕ) (k a b : ℕ) (x : Item) where
       choose 10 _ _ h (lone 10 block refl refl) λ h.
       choose 11 _ _ h (lone 11 block_end refl refl) λ h.
       choose 12 _ _ h (counting 12 run refl refl) λ h.
-      choose 13 _ _ h (counting 13 runEnd refl refl) λ h.
+      choose 13 _ _ h (counting 13 run_end refl refl) λ h.
       choose 14 _ _ h (counting 14 again refl refl) λ h.
       choose 15 _ _ h if-shows λ h.
       choose 16 _ _ h (lone 16 else_item refl refl) λ h.

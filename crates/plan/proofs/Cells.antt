@@ -19,9 +19,9 @@ use Rattle.items.specs.declared.Signal.TheVariants.{NewLine, SpaceOrNewLine, Tab
 use Rattle.text.specs.Basic.{is_nil, sum}
 use Rattle.text.proofs.Lists.{sum-append}
 use Rattle.items.specs.Role.{role, is_run, runs_of}
-use Rattle.items.specs.Item.{lines, Item, Out, stop, ok, Context, Print, mark, runEnd, again, say, says, open_run, stopped, run, if_test, plain_item}
+use Rattle.items.specs.Item.{lines, Item, Out, stop, ok, Context, Print, mark, run_end, again, say, says, open_run, stopped, run, if_test, plain_item}
 use Rattle.items.specs.Item.{signal, signal_kind, condition_test}
-use Rattle.comments.specs.Comments.{Location, above_item, itemInline, endOfItems, comment}
+use Rattle.comments.specs.Comments.{Location, above_item, item_inline, end_of_items, comment}
 use Rattle.tree.specs.Index.{kind_at}
 use Rattle.plan.specs.Words.{word_count}
 use Rattle.plan.specs.Ops.{Source, token, note, expand, op_items, coded, operand_limit, decoded, note_kind}
@@ -268,7 +268,7 @@ module _ (s : Source) (v : ℕ) where
 
   pub carried-end : Carried s 13 v
   unfolding expand plain_item sum
-  carried-end = record { far = λ l. one-far (runEnd v) l; calm = refl; some = omega arith }
+  carried-end = record { far = λ l. one-far (run_end v) l; calm = refl; some = omega arith }
 
   pub carried-again : Carried s 14 v
   unfolding expand plain_item sum
@@ -289,8 +289,8 @@ module _ (s : Source) (v : ℕ) where
 
       go : (l : Location) → 1 ≤ length (note s v l) → runs_of (note s v l) ≡ 0 → Carried s (note_kind l) v
       go above_item h c = carried-low 19 m c h
-      go itemInline h c = carried-low 20 m c h
-      go endOfItems h c = carried-low 21 m c h
+      go item_inline h c = carried-low 20 m c h
+      go end_of_items h c = carried-low 21 m c h
 
 -- ---- what planners keep
 
@@ -362,8 +362,8 @@ note-planned s l k v e h = by (ap says (note-is l)) (rw e at h)
   where
     note-is : (l : Location) → note s v l ≡ expand s (note_kind l) v
     note-is above_item = refl
-    note-is itemInline = refl
-    note-is endOfItems = refl
+    note-is item_inline = refl
+    note-is end_of_items = refl
 
 pub signal-below : (x : Signal) (k : ℕ) → k ≡ signal_kind x → k < 32
 signal-below x k e = rw e (go x)
@@ -386,8 +386,8 @@ note-below l k e = rw e (go l)
   where
     go : (l : Location) → note_kind l < 32
     go above_item = omega arith
-    go itemInline = omega arith
-    go endOfItems = omega arith
+    go item_inline = omega arith
+    go end_of_items = omega arith
 
 pub always-planned : (s : Source) (t : Condition) {o a : Held} → t ≡ Always → Plans s (says (expand s 15 0)) o a → Plans s (say (if_test (condition_test t))) o a
 unfolding say says expand plain_item

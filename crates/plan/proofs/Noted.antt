@@ -15,7 +15,7 @@ use Rattle.tree.specs.Class.{kinds, one_of, all_of}
 use Rattle.tree.specs.Index.{Region, kind_at, part_at, parts_from, end_at}
 use Rattle.tree.proofs.Siblings.{region-part, region-past, region-next, parts-over}
 use Rattle.children.specs.declared.gap.Span.{Span}
-use Rattle.children.specs.Stretch.{inline_in, waiting_in, notes as noteKinds}
+use Rattle.children.specs.Stretch.{inline_in, waiting_in, notes as note_kinds}
 use Rattle.children.specs.Tally.{speaks}
 use Rattle.children.specs.Spans.{Lies, gap_at}
 use Rattle.plan.specs.Ops.{Source, source_at, token, note, operand_limit}
@@ -138,6 +138,6 @@ inline-planned s image index g loc e h = kinds-planned s _ loc e h
 
 pub waiting-planned : (s : Source) (image index : List ℕ) (g : Span) (loc : Location) {o a : Held} {v w : Kinds} {c : Held}
     → v ≡ kinds Class.CustomError → Plans s (comments (all_of v (parts_from image index g.from g.cut)) loc) o c
-    → w ≡ noteKinds → Plans s (comments (all_of w (parts_from image index g.cut g.to)) loc) c a → Plans s (comments (gap_at image index g).waiting loc) o a
+    → w ≡ note_kinds → Plans s (comments (all_of w (parts_from image index g.cut g.to)) loc) c a → Plans s (comments (gap_at image index g).waiting loc) o a
 unfolding waiting_in
 waiting-planned s index text g loc e h f k = notes-both_lem s loc _ _ (kinds-planned s _ loc e h) (kinds-planned s _ loc f k)

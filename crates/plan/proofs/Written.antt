@@ -11,7 +11,7 @@ use Rattle.items.specs.Machine.{all_fit, sized, no_size, Puts, held, Says}
 use Rattle.items.specs.declared.Printed.{Printed}
 use Rattle.items.specs.declared.Printed.TheVariants.{Done, Full}
 use Rattle.items.proofs.Fits.{sized-none, sized-append, puts_none, puts-append, fit_append, said-puts, said-done}
-use Rattle.comments.specs.Comments.{Location, endOfItems, comment}
+use Rattle.comments.specs.Comments.{Location, end_of_items, comment}
 use Rattle.tree.specs.Index.{kind_at}
 use Rattle.plan.specs.Words.{word_at}
 use Rattle.plan.specs.Ops.{Source, token, note, place_by, expand, op_items, decoded}
@@ -50,7 +50,7 @@ texted e = rw e refl
 pub place_at : (j : ℕ) {k : ℕ} → k ≡ j → place_by j ≡ place_by k
 place_at j e = rw e refl
 
-pub place_else : (k : ℕ) → (k ≡ 19 → ⊥) → (k ≡ 20 → ⊥) → endOfItems ≡ place_by k
+pub place_else : (k : ℕ) → (k ≡ 19 → ⊥) → (k ≡ 20 → ⊥) → end_of_items ≡ place_by k
 place_else k e f = rw (ne_eqb k 19 e, ne_eqb k 20 f) refl
 
 pub noted : (s : Source) (t : ℕ) {l m : Location} → l ≡ m → note s t l ≡ note s t m

@@ -1,7 +1,7 @@
 -- What items weigh: 1 each, or more than any array holds where a number has no room in an operation.
 use Rattle.std.specs.Prelude.{◌≡◌, ℕ, ◌^◌, ◌≤◌, cond, List, length, nat_lt}
 use Rattle.text.specs.Basic.{sum}
-use Rattle.items.specs.Item.{always, lines, Item, text, signal, mark, run, runEnd, again, if_test}
+use Rattle.items.specs.Item.{always, lines, Item, text, signal, mark, run, run_end, again, if_test}
 use Rattle.items.specs.Role.{runs_of}
 use Rattle.plan.specs.Ops.{Source, expand, operand_limit}
 
@@ -11,7 +11,7 @@ number_in (text s) = 0
 number_in (signal s) = 0
 number_in (mark n) = n
 number_in (run n) = n
-number_in (runEnd n) = n
+number_in (run_end n) = n
 number_in (again n) = n
 number_in (if_test always) = 0
 number_in (if_test (lines n)) = n

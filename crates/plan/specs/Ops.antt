@@ -2,7 +2,7 @@
 use Rattle.std.specs.Prelude.{ℕ, zero, suc, ◌+◌, ◌*◌, ◌/◌, ◌%◌, cond, List, [], ◌∷◌, ◌++◌, ◌==◌, nat_le, slice_index}
 use Rattle.text.specs.Basic.{ascii}
 use Rattle.items.specs.Item.{Item, text, plain_item}
-use Rattle.comments.specs.Comments.{Location, above_item, itemInline, endOfItems, comment}
+use Rattle.comments.specs.Comments.{Location, above_item, item_inline, end_of_items, comment}
 use Rattle.tree.specs.Index.{kind_at, text_at}
 use Rattle.plan.specs.Words.{word_at}
 
@@ -24,7 +24,7 @@ note s t loc = comment (kind_at s.index t) (token s t) loc
 
 -- the place of a comment by the kind of its operation
 abbrev pub place_by : ℕ → Location
-place_by k = cond (k == 19) above_item (cond (k == 20) itemInline endOfItems)
+place_by k = cond (k == 19) above_item (cond (k == 20) item_inline end_of_items)
 
 -- the items of an operation by its kind and operand: 0 a token, 1 a word, 2 to 18 an item without a text, 19 to 21 a comment by its place
 unfoldable pub expand : Source → ℕ → ℕ → List Item
@@ -54,5 +54,5 @@ decoded s ops (suc n) = decoded s ops n ++ op_items s (slice_index ops n)
 -- the kind of a comment at a place
 abbrev pub note_kind : Location → ℕ
 note_kind above_item = 19
-note_kind itemInline = 20
-note_kind endOfItems = 21
+note_kind item_inline = 20
+note_kind end_of_items = 21

@@ -7,7 +7,7 @@ pub mod words;
 pub mod write;
 
 ghost use Rattle.std.specs.Prelude.{◌≡◌, ℕ, ◌<◌, List, length, ◌==◌, slice_index, slice_set};
-ghost use Rattle.items.specs.Item.{say, says, lit, open_run, stopped, text, signal, condition_test, mark, runEnd, again, if_test};
+ghost use Rattle.items.specs.Item.{say, says, lit, open_run, stopped, text, signal, condition_test, mark, run_end, again, if_test};
 ghost use Rattle.numbers.specs.Mode.{mode_number, mode_at, keeps};
 ghost use Rattle.comments.specs.Place.{place};
 ghost use Rattle.plan.specs.Words.{word_at, word_or_none, word_count};
@@ -217,7 +217,7 @@ pub fn open_run(ops: &mut [u32], cells: &mut [u32; 8])
 
 // Ends a run.
 pub fn end_run(ops: &mut [u32], cells: &mut [u32; 8], k: Run)
-    ensures { PlansAny ops cells (say (runEnd k.0)) }
+    ensures { PlansAny ops cells (say (run_end k.0)) }
 {
     add_numbered(ops, cells, items::RUN_END, k.0 as u64);
 }

@@ -7,7 +7,7 @@ use native.Mathlib.Omega.{arith}
 use borrow.Author.Tests.{ne_eqb}
 use Rattle.text.specs.Basic.{is_nil}
 use Rattle.items.specs.Item.{Test, lines, newline, indent, outdent, mark, group, Print, ◌⨟◌, none, say, stopped, lit, when, with_number}
-use Rattle.comments.specs.Comments.{itemInline}
+use Rattle.comments.specs.Comments.{item_inline}
 use Rattle.tree.specs.Tree.{Part}
 use Rattle.tree.specs.Class.{number_of}
 use Rattle.children.specs.declared.survey.Outline.{Outline}
@@ -18,7 +18,7 @@ use Rattle.children.specs.Spans.{gap_at}
 use Rattle.children.proofs.Among.{none-some}
 use Rattle.printer.specs.declared.lists.Style.TheVariants.{Elements, Arguments, Members, Specs, Binds}
 use Rattle.printer.specs.Combine.{grouped, comma, separator, only_if, ending, newline_if, test_of, bracketed}
-use Rattle.printer.specs.Print.{shared, indented, children, list, arguments, compBody, compOf, comprehension, manyBinds, localOf}
+use Rattle.printer.specs.Print.{shared, indented, children, list, arguments, comp_body, comp_of, comprehension, many_binds, local_of}
 use Rattle.printer.specs.Lists.{on_line, behind_it, above, following, ending_of, open_list, end_body, repeat_body, close_bracket, close_list, close_arguments}
 use Rattle.printer.proofs.Seq.{seq_assoc, none_first, none_last}
 use Rattle.printer.specs.Walked.{around, Outlined}
@@ -30,7 +30,7 @@ unfolding around above following
 around_is pr f g a j b m = simp seq_assoc
 
 -- what follows a child, by the code's test whether one more does
-pub following_is : (f g : Bool → Print) (b : Gap) {t m : Bool} → t ≡ m → following f g b m ≡ f t ⨟ (comments b.inline itemInline ⨟ g t)
+pub following_is : (f g : Bool → Print) (b : Gap) {t m : Bool} → t ≡ m → following f g b m ≡ f t ⨟ (comments b.inline item_inline ⨟ g t)
 unfolding following
 following_is f g b e = rw e
 
@@ -106,25 +106,25 @@ module _ (pr : ℕ → Print) {r : Reading} where
 
 module _ (pr : ℕ → Print) (ps : List Part) where
   -- with one: the reading of its members
-  pub comp-members : (n : ℕ) (x : Option Part) {j : ℕ} (r : Reading) → number_of x ≡ some j → ((s : Part) → x ≡ some s → comp_members s ps ≡ r) → comprehension pr n ps x ≡ compOf pr ps r
+  pub comp-members : (n : ℕ) (x : Option Part) {j : ℕ} (r : Reading) → number_of x ≡ some j → ((s : Part) → x ≡ some s → comp_members s ps ≡ r) → comprehension pr n ps x ≡ comp_of pr ps r
   unfolding comprehension
   comp-members n nothing {j} r e f = none-some j e
   comp-members n (some s) r e f = rw (f s refl)
 
-  pub comp-foreign : {n : ℕ} {r : Reading} → r ≡ foreign n → compOf pr ps r ≡ stopped n
-  unfolding compOf
+  pub comp-foreign : {n : ℕ} {r : Reading} → r ≡ foreign n → comp_of pr ps r ≡ stopped n
+  unfolding comp_of
   comp-foreign e = rw e
 
   -- the reading of its CompSpecs
   module _ {index image : List ℕ} {r : Reading} {m : Outline} (x : Outlined image index r m) (q : Reading) (e : comp_specs x.ending ps ≡ q) where
-    pub specs-foreign : {n : ℕ} → q ≡ foreign n → compOf pr ps r ≡ stopped n
-    unfolding compOf compBody
+    pub specs-foreign : {n : ℕ} → q ≡ foreign n → comp_of pr ps r ≡ stopped n
+    unfolding comp_of comp_body
     specs-foreign h = rw (x.is, e, h)
 
     pub comp-full : {o : Outline} → Outlined image index q o
-        → compOf pr ps r ≡ with_number (λ k. let u = test_of (m.many || (o.many || (m.blank || o.blank))) k in
+        → comp_of pr ps r ≡ with_number (λ k. let u = test_of (m.many || (o.many || (m.blank || o.blank))) k in
         open_list "{" k u ⨟ (say group ⨟ (children pr (on_line Members u) (behind_it Members u) (kids_in r) ⨟ (newline_if m.blank ⨟ (children pr (on_line Specs u) (behind_it Specs u) (kids_in q) ⨟ close_list "}" k (ending_of image index o))))))
-    unfolding compOf compBody bracketed on_line behind_it kids_in
+    unfolding comp_of comp_body bracketed on_line behind_it kids_in
     comp-full {o} y = rw (x.is, e, y.is) (ap with_number (λ i k. step k i))
       where
         test : ℕ → Test
@@ -136,22 +136,22 @@ module _ (pr : ℕ → Print) (ps : List Part) where
 
 -- ---- locals
 
-binds_flat : (pr : ℕ → Print) (cs : List Child) (e : Ending) → manyBinds pr cs e ≡ (lit "local" ⨟ (say indent ⨟ say newline)) ⨟ (children pr (λ m. lit ",") (λ m. say newline) cs ⨟ (ending e ⨟ say outdent))
-unfolding manyBinds
+binds_flat : (pr : ℕ → Print) (cs : List Child) (e : Ending) → many_binds pr cs e ≡ (lit "local" ⨟ (say indent ⨟ say newline)) ⨟ (children pr (λ m. lit ",") (λ m. say newline) cs ⨟ (ending e ⨟ say outdent))
+unfolding many_binds
 binds_flat pr cs e = simp seq_assoc
 
 module _ (pr : ℕ → Print) {r : Reading} where
-  pub local-foreign : {n : ℕ} → r ≡ foreign n → localOf pr r ≡ stopped n
-  unfolding localOf
+  pub local-foreign : {n : ℕ} → r ≡ foreign n → local_of pr r ≡ stopped n
+  unfolding local_of
   local-foreign e = rw e
 
   pub local-many : (t : Test) {index image : List ℕ} {o : Outline} → Outlined image index r o → (o.children ≡ 1 → ⊥)
-      → localOf pr r ≡ (lit "local" ⨟ (say indent ⨟ say newline)) ⨟ (children pr (on_line Binds t) (behind_it Binds t) (kids_in r) ⨟ (ending (ending_of image index o) ⨟ say outdent))
-  unfolding localOf kids_in on_line behind_it
+      → local_of pr r ≡ (lit "local" ⨟ (say indent ⨟ say newline)) ⨟ (children pr (on_line Binds t) (behind_it Binds t) (kids_in r) ⨟ (ending (ending_of image index o) ⨟ say outdent))
+  unfolding local_of kids_in on_line behind_it
   local-many t {index} {image} {o} x h =
       rw x.is (go x.kids x.count ∙ ap (λ (e : Ending). (lit "local" ⨟ (say indent ⨟ say newline)) ⨟ (children pr (λ m. lit ",") (λ m. say newline) x.kids ⨟ (ending e ⨟ say outdent))) (ending-is x))
     where
-      go : (cs : List Child) → length cs ≡ o.children → localOf pr (read cs x.ending) ≡ (lit "local" ⨟ (say indent ⨟ say newline)) ⨟ (children pr (λ m. lit ",") (λ m. say newline) cs ⨟ (ending x.ending ⨟ say outdent))
+      go : (cs : List Child) → length cs ≡ o.children → local_of pr (read cs x.ending) ≡ (lit "local" ⨟ (say indent ⨟ say newline)) ⨟ (children pr (λ m. lit ",") (λ m. say newline) cs ⨟ (ending x.ending ⨟ say outdent))
       go [] e = binds_flat pr [] x.ending
       go (c ∷ []) e = absurd (h (sym e))
       go (c ∷ d ∷ cs) e = binds_flat pr (c ∷ d ∷ cs) x.ending

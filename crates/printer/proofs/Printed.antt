@@ -23,7 +23,7 @@ use Rattle.children.specs.Between.{Bounded}
 use Rattle.printer.specs.declared.lists.ListKind.{ListKind}
 use Rattle.printer.specs.declared.lists.Style.TheVariants.{Elements, Arguments, Members, Specs, Binds}
 use Rattle.printer.specs.Combine.{newline_if, test_of, ending}
-use Rattle.printer.specs.Print.{children, list, arguments, compOf, comprehension, localOf, statementsOf, values_of, expression}
+use Rattle.printer.specs.Print.{children, list, arguments, comp_of, comprehension, local_of, statements_of, values_of, expression}
 use Rattle.plan.specs.Words.{words, word_at, Word, word_or_none}
 use Rattle.printer.specs.Lists.{on_line, behind_it, ending_of, open_list, close_list, close_arguments, opener_of, closer_of, child_of}
 use Rattle.printer.specs.Under.{parts_of}
@@ -97,7 +97,7 @@ pub plans-comp : {src : Source} (pr : ℕ → Print) (ps : List Part) {index ima
     → comp_specs x.ending ps ≡ q → Outlined image index q o → k ≡ next_run h₀ → condition_test t ≡ test_of (m.many || (o.many || (m.blank || o.blank))) k → Word w "{" → Word v "}"
     → Plans src (open_list (word_at w) k (condition_test t)) h₀ h₁ → Plans src (say group) h₁ h₂ → Plans src (children pr (on_line Members (condition_test t)) (behind_it Members (condition_test t)) (kids_in r)) h₂ h₃
     → Plans src (newline_if m.blank) h₃ h₄ → Plans src (children pr (on_line Specs (condition_test t)) (behind_it Specs (condition_test t)) (kids_in q)) h₄ h₅ → Plans src (close_list (word_at v) k (ending_of image index o)) h₅ h₆
-    → Plans src (compOf pr ps r) h₀ h₆
+    → Plans src (comp_of pr ps r) h₀ h₆
 plans-comp pr ps {q = q} t x e y n c w v p₁ p₂ p₃ p₄ p₅ p₆ = by (comp-full pr ps x q e y) (numbers _ n (rw (← c, ← w.text, ← v.text) (p₁ ▸ p₂ ▸ p₃ ▸ p₄ ▸ p₅ ▸ p₆)))
 
 -- it has no CompSpec
@@ -109,7 +109,7 @@ comp-lacks pr n ps (some x) e g h = absurd (false≢true (sym (rw e at g) ∙ h)
 -- its first reading
 pub member_reading : {image index : List ℕ} (i : ℕ) (pr : ℕ → Print) (x : Option Part) {f : Option ℕ} {b : Bool} {z : Bounds} → f ≡ number_of x → b ≡ not (present f) → b ≡ false
     → Bounded image index (i + 1) (end_at index i) (number_of (first Class.LBrace (parts_of image index i))) (number_of x) z
-    → comprehension pr i (parts_of image index i) x ≡ compOf pr (parts_of image index i) (read_at image index Class.Member z nothing)
+    → comprehension pr i (parts_of image index i) x ≡ comp_of pr (parts_of image index i) (read_at image index Class.Member z nothing)
 member_reading i pr nothing e g h b = absurd (false≢true (sym h ∙ rw e at g))
 member_reading i pr (some s) e g h b = comp-members pr _ i (some s) _ refl (λ s' q. rw (← q) (b.read Class.Member _ (some s) nothing refl refl))
 
@@ -117,17 +117,17 @@ member_reading i pr (some s) e g h b = comp-members pr _ i (some s) _ refl (λ s
 
 pub plans-binds : {src : Source} (pr : ℕ → Print) {r q : Reading} → r ≡ q → {index image : List ℕ} {o : Outline} (t : Condition) {h₀ h₁ h₂ h₃ : Held} → Outlined image index q o → (o.children ≡ 1 → ⊥)
     → Plans src (lit "local" ⨟ (say indent ⨟ say newline)) h₀ h₁ → Plans src (children pr (on_line Binds (condition_test t)) (behind_it Binds (condition_test t)) (kids_in q)) h₁ h₂
-    → Plans src (ending (ending_of image index o) ⨟ say outdent) h₂ h₃ → Plans src (localOf pr r) h₀ h₃
-plans-binds pr e t x h p₁ p₂ p₃ = by (ap (localOf pr) e ∙ local-many pr (condition_test t) x h) (p₁ ▸ p₂ ▸ p₃)
+    → Plans src (ending (ending_of image index o) ⨟ say outdent) h₂ h₃ → Plans src (local_of pr r) h₀ h₃
+plans-binds pr e t x h p₁ p₂ p₃ = by (ap (local_of pr) e ∙ local-many pr (condition_test t) x h) (p₁ ▸ p₂ ▸ p₃)
 
 -- ---- expressions
 
 pub plans-expr : {src : Source} {image index : List ℕ} (i : ℕ) (pr : ℕ → Print) (x : Option Part) {f : Option ℕ} {y z : Bounds} {h₀ h₁ h₂ h₃ : Held} → f ≡ number_of x
     → Bounded image index (i + 1) (end_at index i) nothing f y → Bounded image index (i + 1) (end_at index i) f nothing z
-    → Plans src (statementsOf pr (read_at image index Class.Stmt y nothing)) h₀ h₁ → Plans src (number_or pr (word_or_none 14) f) h₁ h₂ → Plans src (values_of pr (read_at image index Class.Suffix z nothing)) h₂ h₃
+    → Plans src (statements_of pr (read_at image index Class.Stmt y nothing)) h₀ h₁ → Plans src (number_or pr (word_or_none 14) f) h₁ h₂ → Plans src (values_of pr (read_at image index Class.Suffix z nothing)) h₂ h₃
     → Plans src (expression pr (parts_of image index i) x) h₀ h₃
 unfolding expression word_or_none words
 plans-expr i pr x e b d p₁ p₂ p₃ =
-    by (ap (statementsOf pr) (b.read Class.Stmt nothing x nothing refl (sym e))) p₁
+    by (ap (statements_of pr) (b.read Class.Stmt nothing x nothing refl (sym e))) p₁
     ▸ by (part-number pr _ x ∙ ap (number_or pr _) (sym e)) p₂
     ▸ by (ap (values_of pr) (d.read Class.Suffix x nothing nothing (sym e) refl)) p₃

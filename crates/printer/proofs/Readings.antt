@@ -20,7 +20,7 @@ use Rattle.children.specs.Between.{Bounded}
 use Rattle.children.proofs.Uses.{span-reached}
 use Rattle.children.proofs.Whole.{whole}
 use Rattle.children.proofs.Stretch.{stretch_both}
-use Rattle.printer.specs.Print.{partOr, children}
+use Rattle.printer.specs.Print.{part_or, children}
 use Rattle.printer.specs.Under.{At, Kid}
 use Rattle.printer.specs.Walked.{Turn, around, walked}
 use Rattle.printer.proofs.Walked.{InTurn, children-turn, walk-read}
@@ -28,8 +28,8 @@ use Rattle.printer.proofs.Under.{kid_of, kid_at}
 use Rattle.printer.specs.Reads.{number_or, Within, read_at, Whole, kids_in, Walks}
 
 -- a part prints by its number
-pub part-number : (pr : ℕ → Print) (p : Print) (x : Option Part) → partOr pr p x ≡ number_or pr p (number_of x)
-unfolding partOr number_or
+pub part-number : (pr : ℕ → Print) (p : Print) (x : Option Part) → part_or pr p x ≡ number_or pr p (number_of x)
+unfolding part_or number_or
 part-number pr p nothing = refl
 part-number pr p (some x) = refl
 

@@ -27,7 +27,7 @@ use Rattle.printer.specs.declared.rows.Entry.{Entry}
 use Rattle.printer.specs.declared.rows.Extent.{Extent}
 use Rattle.printer.specs.Layout
 use Rattle.printer.specs.Layout.{asked, layout, rows}
-use Rattle.printer.specs.Print.{eachOf, what, row}
+use Rattle.printer.specs.Print.{each_of, what, row}
 use Rattle.plan.specs.Words.{words, word_at, word_or_none, word_count}
 use Rattle.printer.specs.Rows.{want_at, what_of, piece_of, all_pieces, piece_at, tested, settled, Coded, RowOf, Marks, piece_count}
 use Rattle.printer.proofs.Seq.{Goes, goes_none, goes-more, goes-all, seq_assoc, none_first, none_last}
@@ -95,11 +95,11 @@ module _ (pr : ℕ → Print) (ps : List Part) (n : ℕ) (x : Entry) (r : Bool) 
       go false h = absurd (false≢true (sym h))
 
 -- all parts of a class
-pub piece-each : (pr : ℕ → Print) (ps : List Part) (k w s : ℕ) → (eqb k 5 || eqb k 6) ≡ true → what pr ps (what_of k w s) ≡ eachOf pr (want_at w).class (word_at s) (eqb k 6) ps
+pub piece-each : (pr : ℕ → Print) (ps : List Part) (k w s : ℕ) → (eqb k 5 || eqb k 6) ≡ true → what pr ps (what_of k w s) ≡ each_of pr (want_at w).class (word_at s) (eqb k 6) ps
 unfolding what what_of
 piece-each pr ps k w s h = go (eqb k 5) refl (eqb k 6) refl h
   where
-    go : (a : Bool) → eqb k 5 ≡ a → (b : Bool) → eqb k 6 ≡ b → (a || b) ≡ true → what pr ps (what_of k w s) ≡ eachOf pr (want_at w).class (word_at s) b ps
+    go : (a : Bool) → eqb k 5 ≡ a → (b : Bool) → eqb k 6 ≡ b → (a || b) ≡ true → what pr ps (what_of k w s) ≡ each_of pr (want_at w).class (word_at s) b ps
     go true p b q h = let m : k ≡ 5 = eqb-true k 5 p in rw (← q, m)
     go false p true q h = let m : k ≡ 6 = eqb-true k 6 q in rw m
     go false p false q h = absurd (false≢true h)
@@ -158,13 +158,13 @@ class-tested c e f g h = rw (← f, ← g, ← e) h
 
 module _ (pr : ℕ → Print) (c : Class) (s : String) (ended : Bool) where
   -- a part of another class
-  pub each-other : (x : Part) → one_of (kinds c) x.kind ≡ false → eachOf pr c s ended (x ∷ []) ≡ none
-  unfolding eachOf
+  pub each-other : (x : Part) → one_of (kinds c) x.kind ≡ false → each_of pr c s ended (x ∷ []) ≡ none
+  unfolding each_of
   each-other x h = rw h
 
   -- the parts in turn
-  each-cons : (x : Part) (xs : List Part) → eachOf pr c s ended (x ∷ xs) ≡ eachOf pr c s ended (x ∷ []) ⨟ eachOf pr c s ended xs
-  unfolding eachOf
+  each-cons : (x : Part) (xs : List Part) → each_of pr c s ended (x ∷ xs) ≡ each_of pr c s ended (x ∷ []) ⨟ each_of pr c s ended xs
+  unfolding each_of
   each-cons x xs = go (one_of (kinds c) x.kind)
     where
       F : Print
@@ -173,9 +173,9 @@ module _ (pr : ℕ → Print) (c : Class) (s : String) (ended : Bool) where
       E : Print
       E = when ended (lit "," ⨟ say newline)
 
-      go : (b : Bool) → cond b (F ⨟ (pr x.number ⨟ (E ⨟ eachOf pr c s ended xs))) (eachOf pr c s ended xs) ≡ cond b (F ⨟ (pr x.number ⨟ (E ⨟ none))) none ⨟ eachOf pr c s ended xs
-      go true = rw (none_last E, seq_assoc F (pr x.number ⨟ E) (eachOf pr c s ended xs), seq_assoc (pr x.number) E (eachOf pr c s ended xs))
-      go false = rw (none_first (eachOf pr c s ended xs))
+      go : (b : Bool) → cond b (F ⨟ (pr x.number ⨟ (E ⨟ each_of pr c s ended xs))) (each_of pr c s ended xs) ≡ cond b (F ⨟ (pr x.number ⨟ (E ⨟ none))) none ⨟ each_of pr c s ended xs
+      go true = rw (none_last E, seq_assoc F (pr x.number ⨟ E) (each_of pr c s ended xs), seq_assoc (pr x.number) E (each_of pr c s ended xs))
+      go false = rw (none_first (each_of pr c s ended xs))
 
 -- a text in front: number 0 is none
 front-word : (w : ℕ) → w < word_count → is_nil (ascii (word_at w)) ≡ eqb w 0
@@ -185,8 +185,8 @@ front-word w h = sym (tabled-at true word_count (λ w. is_nil (ascii (word_at w)
 -- a part of the class: the text in front, the part, and what ends it
 pub each-one : {image index : List ℕ} {i j : ℕ} (w : ℕ) (c : Class) (ended : Bool) {o a b d : Held} → w < word_count → Kid image index i j → one_of (kinds c) (kind_at index j) ≡ true
     → Plans (source_at image index) (word_or_none w) o a → Plans (source_at image index) (print_of image j) a b → Plans (source_at image index) (when ended (lit "," ⨟ say newline)) b d
-    → Plans (source_at image index) (eachOf (under image i) c (word_at w) ended (part_at image index j ∷ [])) o d
-unfolding eachOf word_or_none
+    → Plans (source_at image index) (each_of (under image i) c (word_at w) ended (part_at image index j ∷ [])) o d
+unfolding each_of word_or_none
 each-one w c ended l k h x y z = by (rw (h, front-word w l)) (by (front w) x ▸ by (kid-print k) y ▸ z ▸ idle)
   where
     front : (w : ℕ) → when (not (eqb w 0)) (lit (word_at w)) ≡ cond (eqb w 0) none (lit (word_at w))
@@ -201,7 +201,7 @@ pub record Eaching (image index : List ℕ) (i : ℕ) (c : Class) (s : String) (
   pub at : At image index i
   pub reached : Stretch image index (i + 1) j
   pub region : Region image index j (end_at index i)
-  pub goes : Goes (source_at image index) (eachOf (under image i) c s ended (parts_of image index i)) (eachOf (under image i) c s ended (parts_from image index j (end_at index i))) o a
+  pub goes : Goes (source_at image index) (each_of (under image i) c s ended (parts_of image index i)) (each_of (under image i) c s ended (parts_from image index j (end_at index i))) o a
 
 module _ {image index : List ℕ} {i : ℕ} {o : Held} where
   pub eaching-none : (c : Class) (s : String) (ended : Bool) {j : ℕ} → At image index i → j ≡ i + 1 → Eaching image index i c s ended o o j
@@ -215,16 +215,16 @@ module _ {image index : List ℕ} {i : ℕ} {o : Held} where
     pub eaching-less : {k : ℕ} → j < end → k ≡ end_at index j → end - k < end - j
     eaching-less h q = omega (arith, region-past r.region (omega (arith, e)))
 
-    pub eaching-more : {k : ℕ} {b : Held} → j < end → k ≡ end_at index j → Plans (source_at image index) (eachOf (under image i) c s ended (part_at image index j ∷ [])) a b → Eaching image index i c s ended o b k
+    pub eaching-more : {k : ℕ} {b : Held} → j < end → k ≡ end_at index j → Plans (source_at image index) (each_of (under image i) c s ended (part_at image index j ∷ [])) a b → Eaching image index i c s ended o b k
     eaching-more h q p =
         let g : j < end_at index i = omega (arith, e) in
         rw q (record {
           at = r.at;
           reached = stretch_both r.reached (behind_kid (eaching-kid h));
           region = region-next r.region g;
-          goes = goes-more r.goes (ap (eachOf (under image i) c s ended) (region-part r.region g) ∙ each-cons (under image i) c s ended _ _) p;
+          goes = goes-more r.goes (ap (each_of (under image i) c s ended) (region-part r.region g) ∙ each-cons (under image i) c s ended _ _) p;
         })
 
-    pub eaching-all : end ≤ j → Plans (source_at image index) (eachOf (under image i) c s ended (parts_of image index i)) o a
-    unfolding eachOf
+    pub eaching-all : end ≤ j → Plans (source_at image index) (each_of (under image i) c s ended (parts_of image index i)) o a
+    unfolding each_of
     eaching-all h = goes-all r.goes (rw (parts-over index image j (end_at index i) (omega (arith, e))))

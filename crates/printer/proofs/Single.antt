@@ -24,9 +24,9 @@ use Rattle.children.proofs.Uses.{span-child, span-reached, lead-reached}
 use Rattle.children.proofs.Whole.{whole}
 use Rattle.children.proofs.Lead.{whole-after}
 use Rattle.children.proofs.Stretch.{stretch_both}
-use Rattle.printer.specs.Print.{children, localOf}
+use Rattle.printer.specs.Print.{children, local_of}
 use Rattle.printer.specs.Under.{Kid}
-use Rattle.printer.specs.Walked.{around, walked, walkedAfter}
+use Rattle.printer.specs.Walked.{around, walked, walked_after}
 use Rattle.printer.specs.Reads.{Within, Whole, read_at, kids_in, Walks}
 use Rattle.printer.proofs.Walked.{foreign-read, children-turn, walk_after, walk-lead, lead-none}
 use Rattle.printer.proofs.Under.{kid_of}
@@ -47,10 +47,10 @@ some-kids c (G.Gaps.child g x gs) ds e h = go (read_from (child_at g x) gs) h
 
 -- the one child of gaps, by its comments and its number
 record Lone (gs : Gaps) (g : Gap) (x : Part) : Type 0 where
-  one : (pr : ℕ → Print) → localOf pr (reading_of gs) ≡ comments g.waiting above_item ⨟ (lit "local " ⨟ pr x.number)
+  one : (pr : ℕ → Print) → local_of pr (reading_of gs) ≡ comments g.waiting above_item ⨟ (lit "local " ⨟ pr x.number)
 
 lone-child : (g : Gap) (x : Part) (gs : Gaps) {cs : List Child} {e : Ending} → reading_of (G.Gaps.child g x gs) ≡ read cs e → length cs ≡ 1 → Lone (G.Gaps.child g x gs) g x
-unfolding reading_of read_from localOf
+unfolding reading_of read_from local_of
 lone-child g x (G.stopped k n) h l = foreign-read h
 lone-child g x (G.ending k) h l = record { one = λ pr. refl }
 lone-child g x (G.Gaps.child k y gs) {cs} {e} h l = go (read_from (child_at k y) gs) h (some-kids (child_at k y) gs)
@@ -78,7 +78,7 @@ module _ {image index : List ℕ} {w : Kinds} {z : Bounds} {s : Span} (k : w ≡
       go End.Last q = let n : [] ≡ r.kids = cc in absurd (omega (arith, count, ap length n))
       go End.Foreign q = foreign-read q
 
-  pub lone_is : (pr : ℕ → Print) → localOf pr (read_at image index Bind z nothing) ≡ comments (gap_at image index s).waiting above_item ⨟ (lit "local " ⨟ pr s.to)
+  pub lone_is : (pr : ℕ → Print) → local_of pr (read_at image index Bind z nothing) ≡ comments (gap_at image index s).waiting above_item ⨟ (lit "local " ⨟ pr s.to)
   lone_is pr =
       let c = span-child' in
       rw (whole Bind z.loose _, ← k, h.read, c) ((lone-child _ _ _ (rw c at reads) count).one pr)
@@ -98,7 +98,7 @@ module _ {image index : List ℕ} {i : ℕ} {w : Kinds} {z : Bounds} {s : Span} 
     after = rw k (sym (whole-after CompSpec z.loose ts _) ∙ r.is)
 
     -- all of them, walked
-    walked-specs : (pr : ℕ → Print) (f g : Bool → Print) → children pr f g (kids_in (read_at image index CompSpec z (some ts))) ≡ walkedAfter (around pr f g) ts (led image index w z.loose z.to s)
+    walked-specs : (pr : ℕ → Print) (f g : Bool → Print) → children pr f g (kids_in (read_at image index CompSpec z (some ts))) ≡ walked_after (around pr f g) ts (led image index w z.loose z.to s)
     unfolding kids_in
     walked-specs pr f g = rw (r.is, ← h.read) (walk_after (children-turn pr f g) ts _ after)
 

@@ -3,7 +3,7 @@ use Rattle.std.specs.Prelude.{◌≡◌, ℕ, ◌+◌, List}
 use mathlib.Core.Path.{sym, ◌∙◌}
 use mathlib.Core.Option.{Option, none as nothing, some}
 use Rattle.items.specs.Item.{newline, ◌⨟◌, say, stopped, lit}
-use Rattle.comments.specs.Comments.{above_item, endOfItems}
+use Rattle.comments.specs.Comments.{above_item, end_of_items}
 use Rattle.tree.specs.Tree.{Part, tree_of}
 use Rattle.tree.proofs.Accepted.{accepted}
 use Rattle.tree.specs.Answer.{found}
@@ -59,7 +59,7 @@ module _
 
   -- none
   pub source-whole : found before.foreign ≡ nothing → found after.foreign ≡ nothing
-      → source_file (tree_of image) ≡ comments (listed index image before) above_item ⨟ (number_or (under image 0) (lit "/*missing Expr*/") e ⨟ (say newline ⨟ comments (listed index image after) endOfItems))
+      → source_file (tree_of image) ≡ comments (listed index image before) above_item ⨟ (number_or (under image 0) (lit "/*missing Expr*/") e ⨟ (say newline ⨟ comments (listed index image after) end_of_items))
   unfolding source source_of
   source-whole u v = source_is x ∙ rw (before-is, after_is, u, v, part-number (under image 0) (lit "/*missing Expr*/") (first Class.Expr (parts_of image index 0)), f)
 

@@ -17,9 +17,9 @@ use Rattle.children.specs.Gaps as G
 use Rattle.children.specs.Whole.{child_at, closed_by, preceded, read_from, reading_of, sums_of}
 use Rattle.children.specs.Lead.{child_after, reading_after, lead_at, led}
 use Rattle.children.specs.Spans.{gap_at, spanned, Spans, Outlines, surveyed}
-use Rattle.printer.specs.Print.{withComments, children, statement, statements, values}
+use Rattle.printer.specs.Print.{with_comments, children, statement, statements, values}
 use Rattle.printer.proofs.Seq.{seq_assoc}
-use Rattle.printer.specs.Walked.{front_of, has_child, Turn, around, stated, alone, walked, walkedAfter, Outlined}
+use Rattle.printer.specs.Walked.{front_of, has_child, Turn, around, stated, alone, walked, walked_after, Outlined}
 
 pub foreign-read : {A : Type 0} {n : ℕ} {cs : List Child} {e : Ending} → foreign n ≡ read cs e → A
 foreign-read h = let z : ◌≡◌ {A = ℕ} 0 1 = cc in absurd (omega arith)
@@ -51,8 +51,8 @@ pub record InTurn (F : List Child → Print) (turn : Turn) : Type 0 where
   pub led : (ts : List Part) (x : Part) (g : Gap) (m : Bool) → one (closed_by (child_after ts x) g) m ≡ turn (gap_of [] ts false) x.number g m
 
 pub children-turn : (pr : ℕ → Print) (f g : Bool → Print) → InTurn (children pr f g) (around pr f g)
-unfolding children around withComments
-children-turn pr f g = record { one = λ c m. withComments pr c (f m) ⨟ g m; nil = refl; cons = λ c cs. sym (seq_assoc _ _ _); own = λ k x h m. refl; led = λ ts x h m. refl }
+unfolding children around with_comments
+children-turn pr f g = record { one = λ c m. with_comments pr c (f m) ⨟ g m; nil = refl; cons = λ c cs. sym (seq_assoc _ _ _); own = λ k x h m. refl; led = λ ts x h m. refl }
 
 pub statements_turn : (pr : ℕ → Print) → InTurn (statements pr) (stated pr)
 unfolding statements stated statement
@@ -80,8 +80,8 @@ module _ {F : List Child → Print} {turn : Turn} (t : InTurn F turn) where
   walk-read (G.Gaps.child k x gs) h = from-read gs (child_at k x) h ∙ rw (t.own k x (front_of gs) (has_child gs))
 
   -- And so are those of a reading with a trailing list.
-  pub walk_after : (ts : List Part) (gs : Gaps) {cs : List Child} {e : Ending} → reading_after ts gs ≡ read cs e → F cs ≡ walkedAfter turn ts gs
-  unfolding reading_after walkedAfter
+  pub walk_after : (ts : List Part) (gs : Gaps) {cs : List Child} {e : Ending} → reading_after ts gs ≡ read cs e → F cs ≡ walked_after turn ts gs
+  unfolding reading_after walked_after
   walk_after ts (G.stopped k n) h = foreign-read h
   walk_after ts (G.ending k) {cs} h = let q : cs ≡ [] = cc in rw (q, t.nil)
   walk_after ts (G.Gaps.child k x gs) {cs} {e} h = go (is_nil k.waiting) h
@@ -128,8 +128,8 @@ module _ (turn : Turn) (a : Gap) (x : Part) (gs : Gaps) where
   walk-by End.Last h = refl
   walk-by End.Foreign h = refl
 
-  after-by : (ts : List Part) (d : End) → is_child d ≡ false → walkedAfter turn ts (ended_by d a x gs) ≡ none
-  unfolding walkedAfter
+  after-by : (ts : List Part) (d : End) → is_child d ≡ false → walked_after turn ts (ended_by d a x gs) ≡ none
+  unfolding walked_after
   after-by ts End.Child h = absurd (false≢true (sym h))
   after-by ts End.Last h = refl
   after-by ts End.Foreign h = refl
@@ -159,7 +159,7 @@ module _ (index image : List ℕ) (w : Kinds) (loose : Bool) (b : ℕ) (s : Span
     unfolding spanned
     walk_none = walk-by turn _ _ _ s.end (sym i ∙ h)
 
-    pub lead-none : (ts : List Part) → walkedAfter turn ts (led image index w loose b s) ≡ none
+    pub lead-none : (ts : List Part) → walked_after turn ts (led image index w loose b s) ≡ none
     unfolding led
     lead-none ts = after-by turn _ _ _ ts s.end (sym i ∙ h)
 
@@ -178,6 +178,6 @@ module _ {index image : List ℕ} {w : Kinds} {loose : Bool} {b next : ℕ} {t :
     walk-next = rw (stepped, fronted index image w loose b t, tested index image w loose b t)
 
     -- the first step of a reading with a trailing list
-    pub walk-lead : (ts : List Part) → walkedAfter turn ts (led image index w loose b s) ≡ turn (gap_of [] ts false) s.to (gap_at image index t) (is_child t.end) ⨟ walked turn (spanned image index w loose b t)
-    unfolding walkedAfter
+    pub walk-lead : (ts : List Part) → walked_after turn ts (led image index w loose b s) ≡ turn (gap_of [] ts false) s.to (gap_at image index t) (is_child t.end) ⨟ walked turn (spanned image index w loose b t)
+    unfolding walked_after
     walk-lead ts = rw (led-stepped, fronted index image w loose b t, tested index image w loose b t)

@@ -4,7 +4,7 @@ use mathlib.Core.Path.{◌∙◌}
 use mathlib.Core.Option.{none as nothing, some}
 use native.Mathlib.Omega.{arith}
 use Rattle.items.specs.Item.{Print, none, stopped, keeping}
-use Rattle.comments.specs.Comments.{endOfItems}
+use Rattle.comments.specs.Comments.{end_of_items}
 use Rattle.plan.specs.Comments.{comments}
 use Rattle.plan.specs.Ops.{source_at}
 use Rattle.plan.specs.Plans.{Held, Plans}
@@ -24,7 +24,7 @@ use Rattle.children.specs.Gaps.{Gap, gap_of, is_child, is_foreign}
 use Rattle.children.specs.Spans.{Lies, Spans, Surveyed, spanned, gap_at}
 use Rattle.children.proofs.Uses.{child_is, span-reached, survey_reading, survey-after_reading}
 use Rattle.children.proofs.Stretch.{jumps-le}
-use Rattle.printer.specs.Print.{statements, statementsOf, values, values_of}
+use Rattle.printer.specs.Print.{statements, statements_of, values, values_of}
 use Rattle.printer.proofs.Seq.{none_first, keeping_none, Goes, goes_none, goes-more, goes-all}
 use Rattle.printer.specs.Under.{under, print_of}
 use Rattle.printer.specs.Walked.{Turn, around, stated, alone, walked, Outlined}
@@ -144,8 +144,8 @@ module _ {image index : List ℕ} {i : ℕ} {w : Kinds} {z : Bounds} {s s₀ : S
   -- the statements of a reading, and what is left behind them
   pub stating-all : (c : Class) → w ≡ kinds c → Spans image index w z.loose false z.from z.to s₀
       → Outlined image index (read_at image index c z nothing) out → Walking image index i w z.loose z.to (stated (under image i)) s₀ o a s → v ≡ is_child s.end → v ≡ false
-      → {d : Held} → Plans (source_at image index) (keeping (comments (gap_at image index out.last).waiting endOfItems)) a d → Plans (source_at image index) (statementsOf (under image i) (read_at image index c z nothing)) o d
-  unfolding statementsOf
+      → {d : Held} → Plans (source_at image index) (keeping (comments (gap_at image index out.last).waiting end_of_items)) a d → Plans (source_at image index) (statements_of (under image i) (read_at image index c z nothing)) o d
+  unfolding statements_of
   stating-all c k p x h j e q = by (rw (x.is, x.waits, read_walk (statements_turn (under image i)) c (spans_as k p) (outlined-whole x))) (walking-all_lem c k h j e ▸ q)
 
 -- no element
@@ -154,8 +154,8 @@ module _ (pr : ℕ → Print) (c : Class) (index image : List ℕ) (z : Bounds) 
   unfolding values_of values pass
   values-over = rw (parts-over index image z.from z.to h)
 
-  pub statements-over : statementsOf pr (read_at image index c z nothing) ≡ none
-  unfolding statementsOf statements pass comments
+  pub statements-over : statements_of pr (read_at image index c z nothing) ≡ none
+  unfolding statements_of statements pass comments
   statements-over = rw (parts-over index image z.from z.to h, keeping_none, none_first)
 
 -- a foreign element
@@ -164,6 +164,6 @@ module _ (pr : ℕ → Print) {r : Reading} {n : ℕ} (e : r ≡ foreign n) wher
   unfolding values_of
   values-foreign = rw e
 
-  pub statements-foreign : statementsOf pr r ≡ stopped n
-  unfolding statementsOf
+  pub statements-foreign : statements_of pr r ≡ stopped n
+  unfolding statements_of
   statements-foreign = rw e

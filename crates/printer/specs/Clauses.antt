@@ -5,7 +5,7 @@ use Rattle.text.specs.Basic.{or_else}
 use Rattle.text.specs.Lent.{Lent}
 use Rattle.items.specs.Item.{newline, Print, ◌⨟◌, say, lit, when, condition_test}
 use Rattle.items.specs.declared.Condition.{Condition}
-use Rattle.comments.specs.Comments.{above_item, endOfItems}
+use Rattle.comments.specs.Comments.{above_item, end_of_items}
 use Rattle.tree.specs.Tree.{Part}
 use Rattle.tree.specs.declared.class.Class.{Class}
 use Rattle.tree.specs.Class.{kinds, first, last, number_of, all_of}
@@ -25,7 +25,7 @@ use Rattle.printer.specs.declared.lists.ListKind.{ListKind}
 use Rattle.printer.specs.declared.lists.Style.{Style}
 use Rattle.printer.specs.declared.rows.Entry.{Entry}
 use Rattle.printer.specs.Layout.{Piece, asked}
-use Rattle.printer.specs.Print.{eachOf, what, children, list}
+use Rattle.printer.specs.Print.{each_of, what, children, list}
 use Rattle.plan.specs.Words.{word_at}
 use Rattle.printer.specs.Rows.{want_at}
 use Rattle.printer.specs.Lists.{on_line, behind_it, following, ending_of, opener_of, closer_of, child_of, empty_text, open_text, close_text}
@@ -87,7 +87,7 @@ piece_in image index i q = when (asked (parts_in image index i) q) (what (under_
 
 -- some parts of element i, as the entry of a piece says
 abbrev pub each_in : Lent → ℕ → Entry → List Part → Print
-each_in image i x ps = eachOf (under_in image i) (want_at x.want).class (word_at x.word) (x.what == 6) ps
+each_in image i x ps = each_of (under_in image i) (want_at x.want).class (word_at x.word) (x.what == 6) ps
 
 -- children of element i, each with its comments
 abbrev pub children_in : Lent → ℕ → Style → Condition → List Child → Print
@@ -121,4 +121,4 @@ whole_in image index before e after =
     (comments (notes_in image index before) above_item)
     ⨟ number_or (under_in image 0) (lit "/*missing Expr*/") e
     ⨟ say newline
-    ⨟ (comments (notes_in image index after) endOfItems)
+    ⨟ (comments (notes_in image index after) end_of_items)

@@ -2,7 +2,7 @@
 use Rattle.std.specs.Prelude.{ℕ, ◌+◌, ◌*◌, Bool, true, false}
 use Prim.Native.String.{String}
 use Rattle.items.specs.Item.{Test, always, lines, newline, space_or_newline, mark, group, group_end, if_test, else_item, end_if, Print, ◌⨟◌, say, lit, when, with_number}
-use Rattle.comments.specs.Comments.{endOfItems}
+use Rattle.comments.specs.Comments.{end_of_items}
 use Rattle.plan.specs.Comments.{comments}
 use Rattle.children.specs.Reading.{Ending}
 
@@ -33,7 +33,7 @@ separator t = either t (say newline) (say space_or_newline)
 
 -- end_comments: a blank line if it asks for one, and the comments
 abbrev pub ending : Ending → Print
-ending e = newline_if e.blank_line ⨟ comments e.trivia endOfItems
+ending e = newline_if e.blank_line ⨟ comments e.trivia end_of_items
 
 -- multi_line of list k: true_resolver() where the source has many lines, else is_multiple_lines(start, end)
 unfoldable pub test_of : Bool → ℕ → Test

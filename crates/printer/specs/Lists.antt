@@ -1,10 +1,10 @@
 -- What stands around the children of each kind of list, and what opens and closes a list, as the code prints it.
 use Rattle.std.specs.Prelude.{ℕ, ◌+◌, ◌*◌, Bool, ◌&&◌, List, nat_le}
 use Prim.Native.String.{String}
-use Rattle.items.specs.Item.{Test, newline, mark, group, group_end, block, block_end, runEnd, again, if_test, else_item, end_if, Print, ◌⨟◌, none, say, lit, when, open_run}
+use Rattle.items.specs.Item.{Test, newline, mark, group, group_end, block, block_end, run_end, again, if_test, else_item, end_if, Print, ◌⨟◌, none, say, lit, when, open_run}
 use Rattle.tree.specs.declared.class.Class.{Class}
 use Rattle.tree.specs.declared.class.Class.TheVariants.{Expr, Member, LBrack, RBrack, LBrace, RBrace}
-use Rattle.comments.specs.Comments.{above_item, itemInline}
+use Rattle.comments.specs.Comments.{above_item, item_inline}
 use Rattle.plan.specs.Comments.{comments}
 use Rattle.children.specs.Gaps.{Gap, newlines_at}
 use Rattle.children.specs.Reading.{Ending}
@@ -38,7 +38,7 @@ above a = newline_if (a.had && nat_le 2 (newlines_at a)) ⨟ comments a.waiting 
 
 -- what follows a child, from the gap behind it: f on its line, its comments, and g behind them
 unfoldable pub following : (Bool → Print) → (Bool → Print) → Gap → Bool → Print
-following f g b m = f m ⨟ comments b.inline itemInline ⨟ g m
+following f g b m = f m ⨟ comments b.inline item_inline ⨟ g m
 
 -- what is behind the last child, from what a survey says
 abbrev pub ending_of : List ℕ → List ℕ → Outline → Ending
@@ -50,7 +50,7 @@ open_list a k t = lit a ⨟ say (mark (2 * k)) ⨟ say (if_test t) ⨟ say block
 
 -- the end of a list's group, run and block
 unfoldable pub end_body : ℕ → Print
-end_body k = say group_end ⨟ say (runEnd k) ⨟ say block_end
+end_body k = say group_end ⨟ say (run_end k) ⨟ say block_end
 
 -- a list's body once more, and the end of the branches
 unfoldable pub repeat_body : ℕ → Print

@@ -3,9 +3,9 @@ use Rattle.std.specs.Prelude.{ℕ, ◌*◌, Bool, cond, not, ◌||◌, List, [],
 use Rattle.std.proofs.Math.Option.{Option, none as nothing, some}
 use Prim.Native.String.{String}
 use Rattle.text.specs.Basic.{ascii, is_nil}
-use Rattle.items.specs.Item.{Test, lines, text, newline, indent, outdent, block, block_end, runEnd, again, Print, ◌⨟◌, none, say, stopped, lit, when, keeping, open_run, signal}
+use Rattle.items.specs.Item.{Test, lines, text, newline, indent, outdent, block, block_end, run_end, again, Print, ◌⨟◌, none, say, stopped, lit, when, keeping, open_run, signal}
 use Rattle.printer.specs.Combine.{newline_if, either, only_if, grouped, comma, separator, ending, test_of, bracketed}
-use Rattle.comments.specs.Comments.{above_item, itemInline, endOfItems}
+use Rattle.comments.specs.Comments.{above_item, item_inline, end_of_items}
 use Rattle.tree.specs.Tree.{Forest, nil, tree, Part, texts, parts}
 use Rattle.tree.specs.declared.class.Class.{Class}
 use Rattle.tree.specs.Class.{is, nth, first, plus_of}
@@ -15,10 +15,10 @@ use Rattle.printer.specs.Layout.{What, txt, bare, part, opt, each, plus, Piece, 
 
 -- a list's body, in full where the test holds and as `again` where not: 'its body stands once, in the first branch, and as `again` in the second'
 unfoldable pub shared : ℕ → Test → Print → Print → Print → Print
-shared k t body inMany inOne =
+shared k t body in_many in_one =
     either t
-    (say block ⨟ say newline ⨟ open_run ⨟ body ⨟ say (runEnd k) ⨟ say block_end ⨟ inMany)
-    (inOne ⨟ say (again k))
+    (say block ⨟ say newline ⨟ open_run ⨟ body ⨟ say (run_end k) ⨟ say block_end ⨟ in_many)
+    (in_one ⨟ say (again k))
 
 -- with_indent_eoi: 'The run of `with_indent_eoi` begins with its outer group'
 unfoldable pub indented : ℕ → Test → Print → Ending → Print
@@ -29,26 +29,26 @@ module _ (pr : ℕ → Print) where
   -- ROWS
 
   -- a part, or else p: `Option<P>::print`, 'An absent part prints `/*missing Expr*/` and so on', and `if let Some(..)`
-  unfoldable pub partOr : Print → Option Part → Print
-  partOr p nothing = p
-  partOr p (some x) = pr x.number
+  unfoldable pub part_or : Print → Option Part → Print
+  part_or p nothing = p
+  part_or p (some x) = pr x.number
 
   -- a `for` over all parts of a class
-  unfoldable pub eachOf : Class → String → Bool → List Part → Print
-  eachOf c front ended [] = none
-  eachOf c front ended (x ∷ xs) =
+  unfoldable pub each_of : Class → String → Bool → List Part → Print
+  each_of c front ended [] = none
+  each_of c front ended (x ∷ xs) =
       cond (is c x)
-      (when (not (is_nil (ascii front))) (lit front) ⨟ pr x.number ⨟ when ended (lit "," ⨟ say newline) ⨟ eachOf c front ended xs)
-      (eachOf c front ended xs)
+      (when (not (is_nil (ascii front))) (lit front) ⨟ pr x.number ⨟ when ended (lit "," ⨟ say newline) ⨟ each_of c front ended xs)
+      (each_of c front ended xs)
 
   -- one piece of a row, for a node with these parts
   unfoldable pub what : List Part → What → Print
   what ps (txt a) = lit a
   what ps (bare x) = say (signal x)
-  what ps (part w missing) = partOr (lit missing) (nth w.class w.place ps)
-  what ps (opt c) = partOr none (first c ps)
-  what ps (each c front ended) = eachOf c front ended ps
-  what ps plus = partOr none (plus_of ps)
+  what ps (part w missing) = part_or (lit missing) (nth w.class w.place ps)
+  what ps (opt c) = part_or none (first c ps)
+  what ps (each c front ended) = each_of c front ended ps
+  what ps plus = part_or none (plus_of ps)
 
   -- the pieces of a row that are asked for
   unfoldable pub row : List Part → List Piece → Print
@@ -58,13 +58,13 @@ module _ (pr : ℕ → Print) where
   -- LISTS
 
   -- a child with its comments, and what follows it on its line
-  unfoldable pub withComments : Child → Print → Print
-  withComments c p = newline_if c.blank_line ⨟ comments c.before above_item ⨟ pr c.value.number ⨟ p ⨟ comments c.inline itemInline
+  unfoldable pub with_comments : Child → Print → Print
+  with_comments c p = newline_if c.blank_line ⨟ comments c.before above_item ⨟ pr c.value.number ⨟ p ⨟ comments c.inline item_inline
 
   -- a list's children, with what follows each on its line and behind that; both know whether more children follow
   unfoldable pub children : (Bool → Print) → (Bool → Print) → List Child → Print
   children on_line behind_it [] = none
-  children on_line behind_it (c ∷ cs) = withComments c (on_line (more cs)) ⨟ behind_it (more cs) ⨟ children on_line behind_it cs
+  children on_line behind_it (c ∷ cs) = with_comments c (on_line (more cs)) ⨟ behind_it (more cs) ⨟ children on_line behind_it cs
 
   -- `ExprArray::print`, `ObjBodyMemberList`: gen_elements, gen_members
   unfoldable pub list : String → String → String → Reading → Print
@@ -84,9 +84,9 @@ module _ (pr : ℕ → Print) where
       shared k t (grouped (children (λ m. comma m t) (λ m. when m (separator t)) cs)) (say newline) none ⨟ ending e
 
   -- `ObjBodyComp`, gen_obj_comp, from its members and the reading of its CompSpecs
-  unfoldable pub compBody : List Child → Ending → Reading → Print
-  compBody ms me (foreign n) = stopped n
-  compBody ms me (read cs e) =
+  unfoldable pub comp_body : List Child → Ending → Reading → Print
+  comp_body ms me (foreign n) = stopped n
+  comp_body ms me (read cs e) =
       bracketed "{" "}" λ k.
       let t = test_of (any_many_lines ms || (any_many_lines cs || (me.blank_line || e.blank_line))) k in
       let members = children (λ m. only_if t (lit ",")) (λ m. separator t) ms in
@@ -94,34 +94,34 @@ module _ (pr : ℕ → Print) where
       indented k t (grouped (members ⨟ newline_if me.blank_line ⨟ specs)) e
 
   -- `ObjBodyComp` from the reading of its members
-  unfoldable pub compOf : List Part → Reading → Print
-  compOf ps (foreign n) = stopped n
-  compOf ps (read ms me) = compBody ms me (comp_specs me ps)
+  unfoldable pub comp_of : List Part → Reading → Print
+  comp_of ps (foreign n) = stopped n
+  comp_of ps (read ms me) = comp_body ms me (comp_specs me ps)
 
   -- `ObjBodyComp` with number n from its first CompSpec: 'an object comprehension without a CompSpec'
   unfoldable pub comprehension : ℕ → List Part → Option Part → Print
   comprehension n ps nothing = stopped n
-  comprehension n ps (some spec) = compOf ps (comp_members spec ps)
+  comprehension n ps (some spec) = comp_of ps (comp_members spec ps)
 
   -- LOCALS
 
   -- `StmtLocal` with no bind, or with several
-  unfoldable pub manyBinds : List Child → Ending → Print
-  manyBinds cs e = lit "local" ⨟ say indent ⨟ say newline ⨟ children (λ m. lit ",") (λ m. say newline) cs ⨟ ending e ⨟ say outdent
+  unfoldable pub many_binds : List Child → Ending → Print
+  many_binds cs e = lit "local" ⨟ say indent ⨟ say newline ⨟ children (λ m. lit ",") (λ m. say newline) cs ⨟ ending e ⨟ say outdent
 
   -- `StmtLocal`: with one bind only the comments before it are printed
-  unfoldable pub localOf : Reading → Print
-  localOf (foreign n) = stopped n
-  localOf (read [] e) = manyBinds [] e
-  localOf (read (c ∷ []) e) = comments c.before above_item ⨟ lit "local " ⨟ pr c.value.number
-  localOf (read (c ∷ d ∷ cs) e) = manyBinds (c ∷ d ∷ cs) e
+  unfoldable pub local_of : Reading → Print
+  local_of (foreign n) = stopped n
+  local_of (read [] e) = many_binds [] e
+  local_of (read (c ∷ []) e) = comments c.before above_item ⨟ lit "local " ⨟ pr c.value.number
+  local_of (read (c ∷ d ∷ cs) e) = many_binds (c ∷ d ∷ cs) e
 
   -- EXPRESSIONS
 
   -- a statement: 'Comments around a statement .. of an Expr are read and not printed'; in the keeping mode 'an Expr prints each statement's before-trivia above it, its inline trivia
   -- after it at the end-of-items place'
   unfoldable pub statement : Child → Print
-  statement c = keeping (comments c.before above_item) ⨟ pr c.value.number ⨟ keeping (comments c.inline endOfItems)
+  statement c = keeping (comments c.before above_item) ⨟ pr c.value.number ⨟ keeping (comments c.inline end_of_items)
 
   -- statements in turn; 'blank lines around statements, are still dropped'
   unfoldable pub statements : List Child → Print
@@ -129,9 +129,9 @@ module _ (pr : ℕ → Print) where
   statements (c ∷ cs) = statement c ⨟ statements cs
 
   -- the statements of a reading, 'and the trivia left before the base expression at the same place before that base (or its missing text)'
-  unfoldable pub statementsOf : Reading → Print
-  statementsOf (foreign n) = stopped n
-  statementsOf (read cs e) = statements cs ⨟ keeping (comments e.trivia endOfItems)
+  unfoldable pub statements_of : Reading → Print
+  statements_of (foreign n) = stopped n
+  statements_of (read cs e) = statements cs ⨟ keeping (comments e.trivia end_of_items)
 
   -- suffixes in turn: 'Comments around a .. suffix of an Expr are read and not printed', in the keeping mode too: 'Suffix comments .. are still dropped'
   unfoldable pub values : List Child → Print
@@ -146,8 +146,8 @@ module _ (pr : ℕ → Print) where
   -- `Expr::print`: statements, the expression at its base, suffixes
   unfoldable pub expression : List Part → Option Part → Print
   expression ps base =
-      statementsOf (between Class.Stmt nothing base nothing ps)
-      ⨟ partOr (lit "/*missing ExprBase*/") base
+      statements_of (between Class.Stmt nothing base nothing ps)
+      ⨟ part_or (lit "/*missing ExprBase*/") base
       ⨟ values_of (between Class.Suffix base nothing nothing ps)
 
   -- `Printable::print` of an element: its kind, its number, its own text, the joined texts below it, and its parts; 'Visibility prints all its token texts joined'
@@ -157,7 +157,7 @@ module _ (pr : ℕ → Print) where
       (cond (k == 56) (say (text below))
       (cond (k == 2) (expression ps (first Class.ExprBase ps))
       (cond (k == 10) (list "[ ]" "[" "]" (enclosed Class.Expr Class.LBrack Class.RBrack ps))
-      (cond (k == 22) (localOf (enclosed Class.Bind Class.Local Class.Semi ps) ⨟ lit ";" ⨟ say newline)
+      (cond (k == 22) (local_of (enclosed Class.Bind Class.Local Class.Semi ps) ⨟ lit ";" ⨟ say newline)
       (cond (k == 26) (comprehension n ps (first Class.CompSpec ps))
       (cond (k == 27) (list "{ }" "{" "}" (enclosed Class.Member Class.LBrace Class.RBrace ps))
       (cond (k == 47) (arguments (enclosed Class.Arg Class.LParen Class.RParen ps))
@@ -177,11 +177,11 @@ prints (tree e kids rest) n =
 unfoldable pub source_of : Around → Around → Print → Print
 source_of (foreign_at n) after p = stopped n
 source_of (trivia b) (foreign_at n) p = stopped n
-source_of (trivia b) (trivia a) p = comments b above_item ⨟ p ⨟ say newline ⨟ comments a endOfItems
+source_of (trivia b) (trivia a) p = comments b above_item ⨟ p ⨟ say newline ⨟ comments a end_of_items
 
 -- `SourceFile::print` from its parts and its expression
 unfoldable pub source : (ℕ → Print) → List Part → Option Part → Print
-source pr ps x = source_of (trivia_before x ps) (trivia_after x ps) (partOr pr (lit "/*missing Expr*/") x)
+source pr ps x = source_of (trivia_before x ps) (trivia_after x ps) (part_or pr (lit "/*missing Expr*/") x)
 
 -- `SourceFile::print`: 'The reference answer is `SourceFile::print` in lib.rs'
 unfoldable pub source_file : Forest → Print

@@ -1,7 +1,7 @@
 -- A reading's children printed gap by gap: what is printed of each child, and what a survey says.
 use Rattle.std.specs.Prelude.{◌≡◌, ℕ, Bool, true, false, ◌&&◌, List, [], length, nat_le}
 use Rattle.items.specs.Item.{Print, ◌⨟◌, none, keeping}
-use Rattle.comments.specs.Comments.{above_item, itemInline, endOfItems}
+use Rattle.comments.specs.Comments.{above_item, item_inline, end_of_items}
 use Rattle.tree.specs.Tree.{Part}
 use Rattle.children.specs.declared.survey.Outline.{Outline}
 use Rattle.plan.specs.Comments.{comments}
@@ -31,11 +31,11 @@ Turn = Gap → ℕ → Gap → Bool → Print
 
 -- a child of a list with its comments: f m follows it on its line, g m stands behind that
 unfoldable pub around : (ℕ → Print) → (Bool → Print) → (Bool → Print) → Turn
-around pr f g a j b m = (newline_if (a.had && nat_le 2 (newlines_at a)) ⨟ comments a.waiting above_item ⨟ pr j ⨟ f m ⨟ comments b.inline itemInline) ⨟ g m
+around pr f g a j b m = (newline_if (a.had && nat_le 2 (newlines_at a)) ⨟ comments a.waiting above_item ⨟ pr j ⨟ f m ⨟ comments b.inline item_inline) ⨟ g m
 
 -- a statement with what is kept of its comments
 unfoldable pub stated : (ℕ → Print) → Turn
-stated pr a j b m = keeping (comments a.waiting above_item) ⨟ pr j ⨟ keeping (comments b.inline endOfItems)
+stated pr a j b m = keeping (comments a.waiting above_item) ⨟ pr j ⨟ keeping (comments b.inline end_of_items)
 
 -- a child alone
 unfoldable pub alone : (ℕ → Print) → Turn
@@ -49,10 +49,10 @@ module _ (turn : Turn) where
   walked (G.Gaps.child k x gs) = turn k x.number (front_of gs) (has_child gs) ⨟ walked gs
 
   -- the same with a trailing list, which stands before the first child
-  unfoldable pub walkedAfter : List Part → Gaps → Print
-  walkedAfter ts (G.stopped k n) = none
-  walkedAfter ts (G.ending k) = none
-  walkedAfter ts (G.Gaps.child k x gs) = turn (gap_of [] ts false) x.number (front_of gs) (has_child gs) ⨟ walked gs
+  unfoldable pub walked_after : List Part → Gaps → Print
+  walked_after ts (G.stopped k n) = none
+  walked_after ts (G.ending k) = none
+  walked_after ts (G.Gaps.child k x gs) = turn (gap_of [] ts false) x.number (front_of gs) (has_child gs) ⨟ walked gs
 
 -- ---- what a survey says
 

@@ -13,7 +13,7 @@ ghost use Rattle.plan.specs.Words.{word_or_none, word_count};
 ghost use Rattle.plan.specs.Plans.{PlansIn};
 ghost use Rattle.printer.specs.declared.lists.Style.TheVariants.{Specs};
 ghost use Rattle.printer.specs.Layout.{layout};
-ghost use Rattle.printer.specs.Print.{what, row, children, list, arguments, compOf, comprehension, localOf, statementsOf, values_of, expression};
+ghost use Rattle.printer.specs.Print.{what, row, children, list, arguments, comp_of, comprehension, local_of, statements_of, values_of, expression};
 ghost use Rattle.printer.specs.Rows.{piece_at, tested, want_count, piece_count, Marks};
 ghost use Rattle.printer.specs.Under.{At, Kid, print_of, parts_of};
 ghost use Rattle.printer.specs.Walked.{Outlined};
@@ -194,7 +194,7 @@ fn expr(ops: &mut [u32], cells: &mut [u32; 8], image: &[u8], index: &[u32], i: E
 #[cycle(printers)]
 fn stmts(ops: &mut [u32], cells: &mut [u32; 8], image: &[u8], index: &[u32], i: Element, z: Bounds)
     requires { Within image.now index.now i.0 z }
-    ensures { PlansIn ops cells image index (statementsOf (under_in image i.0) (read_in image index Stmt z none)) }
+    ensures { PlansIn ops cells image index (statements_of (under_in image i.0) (read_in image index Stmt z none)) }
 {
     if z.to <= z.from {
         return;
@@ -422,7 +422,7 @@ fn body(
     requires within { Within image.now index.now i.0 y }
     requires lies { Lies image.now index.now m.last }
     requires outlined { Outlined image.now index.now (read_at image.now index.now Member y none) m }
-    ensures { PlansIn ops cells image index (compOf (under_in image i.0) (parts_in image index i.0) (read_in image index Member y none)) }
+    ensures { PlansIn ops cells image index (comp_of (under_in image i.0) (parts_in image index i.0) (read_in image index Member y none)) }
 {
     let z = spec_bounds(image, index, i);
     let w = kinds_of(Class::CompSpec);
@@ -506,7 +506,7 @@ fn specs(
 #[cycle(printers)]
 fn local(ops: &mut [u32], cells: &mut [u32; 8], image: &[u8], index: &[u32], i: Element)
     requires { At image.now index.now i.0 }
-    ensures { PlansIn ops cells image index (localOf (under_in image i.0) (enclosed Bind Local Semi (parts_in image index i.0)) ⨟ lit ";" ⨟ say newline) }
+    ensures { PlansIn ops cells image index (local_of (under_in image i.0) (enclosed Bind Local Semi (parts_in image index i.0)) ⨟ lit ";" ⨟ say newline) }
 {
     binds(ops, cells, image, index, i);
     plan_word(ops, cells, words::SEMICOLON);
@@ -517,7 +517,7 @@ fn local(ops: &mut [u32], cells: &mut [u32; 8], image: &[u8], index: &[u32], i: 
 #[cycle(printers)]
 fn binds(ops: &mut [u32], cells: &mut [u32; 8], image: &[u8], index: &[u32], i: Element)
     requires { At image.now index.now i.0 }
-    ensures { PlansIn ops cells image index (localOf (under_in image i.0) (enclosed Bind Local Semi (parts_in image index i.0))) }
+    ensures { PlansIn ops cells image index (local_of (under_in image i.0) (enclosed Bind Local Semi (parts_in image index i.0))) }
 {
     let z = enclosed(image, index, i, Class::Local, Class::Semi);
     let o = survey(image, index, kinds_of(Class::Bind), z.loose, z.from, z.to);
@@ -550,7 +550,7 @@ fn lone(ops: &mut [u32], cells: &mut [u32; 8], image: &[u8], index: &[u32], i: E
     requires within { Within image.now index.now i.0 z }
     requires whole { Whole (read_at image.now index.now Bind z none) }
     requires none_len { length (kids_in (read_at image.now index.now Bind z none)) ≡ 1 }
-    ensures { PlansIn ops cells image index (localOf (under_in image i.0) (read_in image index Bind z none)) }
+    ensures { PlansIn ops cells image index (local_of (under_in image i.0) (read_in image index Bind z none)) }
 {
     let w = kinds_of(Class::Bind);
     let s = gap(image, index, w, z.loose, false, z.from, z.to);

@@ -6,7 +6,7 @@ use Rattle.printer.proofs.Walking.{survey-outlined, survey-foreign, outlined-who
 use Rattle.printer.proofs.Listing.{args-foreign, local-foreign, specs-foreign, around_is, comp-foreign, list-foreign}
 use Rattle.printer.proofs.Printed.{enclosed-reading, left_paren, right_paren, plans-args, plans-binds, left_brace, right_brace, spec_reading, plans-comp, comp-lacks, member_reading, plans-expr, list-reading, plans-empty, plans-list}
 use Rattle.printer.proofs.Readings.{within, walks-first, items-walk, walks-kid}
-use Rattle.printer.specs.Print.{localOf, element}
+use Rattle.printer.specs.Print.{local_of, element}
 use Rattle.items.specs.declared.Condition.TheVariants.{Always}
 use Rattle.printer.proofs.Rowing.{kid_falls, eaching-none, eaching-kid, eaching-less, eaching-more, eaching-all, class-tested, each-other, each-one, found_kid, number-found, number-none, piece-unasked, piece-asked_lem, piece-each, piece-part, rowing-none, rowing_more, rowing-in, rowing-all}
 use Rattle.printer.proofs.Under.{kid_at, kid-print}
@@ -55,7 +55,7 @@ binds-lone-requires t c =
     (omega (arith, c.decreases), (within c.requires c.enclosed-z.ensures, (outlined-whole x, outlined-count _ x c.if-o-eq1.true)))
 
 pub binds-returns-then-o-eq1 : goal.binds-returns-then-o-eq1
-binds-returns-then-o-eq1 t c = by (ap (localOf _) (enclosed-reading _ _ _ _ c.enclosed-z.ensures)) c.lone.ensures
+binds-returns-then-o-eq1 t c = by (ap (local_of _) (enclosed-reading _ _ _ _ c.enclosed-z.ensures)) c.lone.ensures
 
 pub binds-items-requires : goal.binds-items-requires
 binds-items-requires t c = (omega (arith, c.decreases), (within c.requires c.enclosed-z.ensures, outlined-whole (survey-outlined _ c.kinds_of.ensures c.survey-o.ensures c.is_stopped.ensures c.if-is_stopped.false)))
