@@ -1,5 +1,5 @@
 -- Fields passed one by one.
-use Rattle.std.proofs.Common.{◌≡◌, ℕ, suc, ◌+◌, ◌-◌, ◌≤◌, List, length, drop, refl, ap, ◌∙◌, le_antisymm, add-one, arith, length-drop}
+use Rattle.std.proofs.Common.{◌≡◌, ℕ, suc, ◌+◌, ◌-◌, ◌≤◌, List, length, drop, refl, ap, ◌∙◌, add-one, arith, length-drop}
 use Rattle.cases.specs.Fields.{le16, behind_fields}
 
 -- the first i of n fields are passed, each of which takes a byte at least
@@ -16,6 +16,3 @@ pub passed-more : {s : List ℕ} {n i : ℕ} {rest next : List ℕ} {k : ℕ} �
 unfolding behind_fields
 passed-more {i = i} {rest} {next} {k} h l p q =
     record { few = omega arith; left = rw (q, p, h.left, add-one i); short = omega (arith, ap length q ∙ length-drop (2 + k) rest, h.short) }
-
-pub passed-all : {s : List ℕ} {n i : ℕ} {rest : List ℕ} → Passed s n i rest → n ≤ i → rest ≡ behind_fields n s
-passed-all h l = rw (le_antisymm l h.few) h.left

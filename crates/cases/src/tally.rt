@@ -2,7 +2,7 @@
 ghost use Rattle.std.specs.Prelude.{◌≡◌, true};
 ghost use Rattle.cases.specs.Tally.{more_if};
 
-use libc::STDOUT_FILENO;
+use std::io::Result;
 
 // How many answers were compared, and how many were as expected.
 #[derive(Clone, Copy)]
@@ -23,11 +23,9 @@ pub fn more(n: u64, holds: bool) -> u64
 }
 
 // One line: a label, a space and a number.
-pub fn line(label: &[u8], n: u64) {
-    io::write_all(STDOUT_FILENO, label);
-    io::write_all(STDOUT_FILENO, b" ");
-    io::print_decimal(STDOUT_FILENO, n);
-    io::write_all(STDOUT_FILENO, b"\n");
+pub fn line(rt: &impl Print, label: &[u8], n: u64) -> Result<()> {
+    rt.write_all(label)?;
+    println!(rt; " {n}")
 }
 
 impl Agreement {
@@ -51,8 +49,8 @@ impl Agreement {
     }
 
     // Two lines: all answers, by their label, and those that agree.
-    pub fn print(self, label: &[u8]) {
-        line(label, self.seen);
-        line(b"  agree", self.right);
+    pub fn print(self, rt: &impl Print, label: &[u8]) -> Result<()> {
+        line(rt, label, self.seen)?;
+        line(rt, b"  agree", self.right)
     }
 }

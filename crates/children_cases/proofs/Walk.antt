@@ -1,22 +1,15 @@
 -- A walk from gap to gap.
 use Rattle.std.proofs.Common.{◌≡◌, ℕ, ◌-◌, ◌<◌, Bool, true, List, arith}
 use Rattle.tree.specs.declared.class.Kinds.{Kinds}
-use Rattle.tree.specs.Index.{Region, end_at}
-use Rattle.tree.proofs.Siblings.{region-next, region-past}
+use Rattle.tree.specs.Index.{end_at}
+use Rattle.tree.proofs.Siblings.{region-past}
 use Rattle.children.specs.declared.gap.Span.{Span}
 use Rattle.children.specs.Gaps.{is_child}
 use Rattle.children.specs.Spans.{Spans, Surveying}
 use Rattle.children.proofs.Stretch.{jumps-le}
 use Rattle.children.proofs.Uses.{child_is}
 
--- a gap from which a walk may go on
-pub walk_from : {index image : List ℕ} {w : Kinds} {l a : Bool} {from b : ℕ} {s : Span} → Spans image index w l a from b s → Surveying image index b s 0
-walk_from h = record { lies = h.lies; onward = h.onward; inside = h.inside; few = omega arith }
-
 module _ {index image : List ℕ} {b : ℕ} {s : Span} (h : Surveying image index b s 0) {t : Bool} (i : t ≡ is_child s.end) (e : t ≡ true) {next : ℕ} (q : next ≡ end_at index s.to) where
-  pub walk-region : Region image index next b
-  walk-region = rw q (region-next h.onward (h.inside (child_is s.end i e)))
-
   pub walk-less : {w : Kinds} {l : Bool} {g : Span} → Spans image index w l true next b g → b - g.to < b - s.to
   walk-less k =
       let d = h.inside (child_is s.end i e) in

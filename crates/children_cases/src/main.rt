@@ -9,8 +9,11 @@ mod sequence;
 ghost use Rattle.std.specs.Prelude.{◌≤◌};
 
 use answer::{BASIS, Digests, basis, mix, mix_answers};
-use cases::{Agreement, behind, behind_fields, byte, front, line, load, more, nth_field, number32};
+use cases::{
+    Agreement, behind, behind_fields, byte, front, line, load, more, nth_field, number32, zeros,
+};
 use sequence::{LONGEST, spell};
+use std::io::Result;
 
 // Bytes of a digest, and of the four of a length.
 const DIGEST: usize = 4;
@@ -62,20 +65,21 @@ fn agreeing(v: &[u8], n: usize, total: u32) -> u64
     more(c, d.loose_after == number32(behind(w, 3 * DIGEST)))
 }
 
-fn compare(v: &[u8], n: usize, total: u32)
+fn compare(rt: &impl Print, v: &[u8], n: usize, total: u32) -> Result<()>
     requires { n ≤ 7 }
 {
-    line(b"length", n as u64);
-    line(b"  sequences", total as u64);
-    line(b"  readings that agree", agreeing(v, n, total));
+    line(rt, b"length", n as u64)?;
+    line(rt, b"  sequences", total as u64)?;
+    line(rt, b"  readings that agree", agreeing(v, n, total))
 }
 
-fn compare_all(v: &[u8]) {
+fn compare_all(rt: &impl Print, v: &[u8]) -> Result<()> {
     let mut n = 0;
     while n <= LONGEST {
-        compare(v, n, COUNTS[n]);
+        compare(rt, v, n, COUNTS[n])?;
         n += 1;
     }
+    Ok(())
 }
 
 // The digest of an answer.
@@ -130,19 +134,19 @@ fn replayed(v: &[u8]) -> Sample {
     s
 }
 
-fn replay(v: &[u8]) {
+fn replay(rt: &impl Print, v: &[u8]) -> Result<()> {
     let s = replayed(v);
     let found = s.found;
-    line(b"sample", found.seen);
-    line(b"  sequences that agree", found.right);
-    line(b"  before the first that does not", s.before);
+    line(rt, b"sample", found.seen)?;
+    line(rt, b"  sequences that agree", found.right)?;
+    line(rt, b"  before the first that does not", s.before)
 }
 
-fn main() {
+fn main(rt: HostRuntime) -> Result<()> {
     let mut digests = [0u8; DIGESTS];
-    let n = load(b"digests.bin", &mut digests);
-    compare_all(front(&digests, n));
-    let mut sample = [0u8; SAMPLE];
-    let m = load(b"sample.bin", &mut sample);
-    replay(front(&sample, m));
+    let n = load(&rt, "digests.bin", &mut digests)?;
+    compare_all(&rt, front(&digests, n))?;
+    let mut sample = zeros::<SAMPLE>();
+    let m = load(&rt, "sample.bin", &mut sample)?;
+    replay(&rt, front(&sample, m))
 }

@@ -40,10 +40,8 @@ fn text_agrees(records: &[u32], texts: &[u8], n: u32, offset: u32, want: &[u8]) 
     if record_word(records, n, 2) != size as u32 {
         return false;
     }
-    check::same(
-        front(behind(texts, offset as usize), size as usize),
-        front(behind(want, TEXT_HEAD), size as usize),
-    )
+    front(behind(texts, offset as usize), size as usize)
+        == front(behind(want, TEXT_HEAD), size as usize)
 }
 
 // Record n is the item that comes first in `want`.

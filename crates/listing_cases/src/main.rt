@@ -5,7 +5,7 @@ ghost use Rattle.listing.specs.Listable.{Listable};
 
 use cases::front;
 use items::Count;
-use libc::STDOUT_FILENO;
+use std::io::Result;
 
 // The records of `[1]`.
 const RECORDS: [u32; 84] = [
@@ -32,26 +32,29 @@ const LINES: u32 = 310;
 
 const EVERY_LINES: u32 = 236;
 
+// Room for a listing.
+const LISTING: usize = 4096;
+
 // Writes a whole listing, whose lines have so many bytes.
-fn print_listing(records: &[u32], texts: &[u8], c: Count, lines: u32)
+fn print_listing(rt: &impl Print, records: &[u32], texts: &[u8], c: Count, lines: u32) -> Result<()>
     requires { Listable records.now texts.now c }
 {
     let n = listing::listing_length(c, lines);
-    let mut out = io::buffer();
+    let mut out = [0u8; LISTING];
     listing::write_listing(records, texts, c, &mut out);
-    io::write_all(STDOUT_FILENO, front(&out, n));
+    rt.write_all(front(&out, n))
 }
 
 // Writes as much of a listing as 40 bytes take.
-fn print_beginning(records: &[u32], texts: &[u8], c: Count)
+fn print_beginning(rt: &impl Print, records: &[u32], texts: &[u8], c: Count) -> Result<()>
     requires { Listable records.now texts.now c }
 {
     let mut out = [0u8; 40];
     listing::write_listing(records, texts, c, &mut out);
-    io::write_all(STDOUT_FILENO, &out);
+    rt.write_all(&out)
 }
 
-fn main() {
+fn main(rt: HostRuntime) -> Result<()> {
     let records = RECORDS;
     let texts = TEXTS;
     let c = Count {
@@ -60,7 +63,7 @@ fn main() {
         runs: 1,
         marks: 2,
     };
-    print_listing(&records, &texts, c, LINES);
+    print_listing(&rt, &records, &texts, c, LINES)?;
     let every = EVERY_KIND;
     let twelve = TWELVE;
     let d = Count {
@@ -69,6 +72,6 @@ fn main() {
         runs: 1,
         marks: 1,
     };
-    print_listing(&every, &twelve, d, EVERY_LINES);
-    print_beginning(&records, &texts, c);
+    print_listing(&rt, &every, &twelve, d, EVERY_LINES)?;
+    print_beginning(&rt, &records, &texts, c)
 }

@@ -5,6 +5,7 @@
 ghost use Rattle.std.specs.Prelude.{◌≡◌, ◌+◌, ◌%◌, ◌^◌};
 
 use cases::{Agreement, behind_fields, front, line, load, nth_field, number};
+use std::io::Result;
 
 // A vector has four fields: its operation, two texts, and what is expected.
 const FIELDS: usize = 4;
@@ -30,6 +31,9 @@ const LINE_FEEDS: u16 = 8;
 const ONES: usize = 256;
 
 const TWOS: usize = ONES * ONES;
+
+// Room for the file.
+const FILE: usize = 65536;
 
 // What was counted over a set of strings.
 #[derive(Clone, Copy)]
@@ -74,12 +78,12 @@ impl Tally {
         }
     }
 
-    fn print(self) {
-        line(b"  valid", self.valid);
-        line(b"  bytes left by trim", self.trimmed);
-        line(b"  bytes left by trim_end", self.trimmed_end);
-        line(b"  bytes of padding", self.padding);
-        line(b"  line feeds", self.line_feeds);
+    fn print(self, rt: &impl Print) -> Result<()> {
+        line(rt, b"  valid", self.valid)?;
+        line(rt, b"  bytes left by trim", self.trimmed)?;
+        line(rt, b"  bytes left by trim_end", self.trimmed_end)?;
+        line(rt, b"  bytes of padding", self.padding)?;
+        line(rt, b"  line feeds", self.line_feeds)
     }
 }
 
@@ -109,9 +113,9 @@ fn is_flag(b: bool, want: &[u8]) -> bool {
 fn agrees(op: u16, a: &[u8], b: &[u8], want: &[u8]) -> bool {
     match op {
         IS_UTF8 => is_flag(text::is_utf8(a), want),
-        TRIM_END => check::same(text::trim_end(a), want),
-        TRIM => check::same(text::trim(a), want),
-        COMMON_WS_PREFIX => check::same(text::common_ws_prefix(a, b), want),
+        TRIM_END => text::trim_end(a) == want,
+        TRIM => text::trim(a) == want,
+        COMMON_WS_PREFIX => text::common_ws_prefix(a, b) == want,
         STARTS_WITH => is_flag(text::starts_with(a, b), want),
         ENDS_WITH => is_flag(text::ends_with(a, b), want),
         LINE_END => number(want) as usize == text::line_end(a, b.len()),
@@ -140,23 +144,23 @@ fn replayed(v: &[u8], op: u16) -> Agreement {
     found
 }
 
-fn replay_all(v: &[u8]) {
-    replayed(v, IS_UTF8).print(b"is_utf8");
-    replayed(v, TRIM_END).print(b"trim_end");
-    replayed(v, TRIM).print(b"trim");
-    replayed(v, COMMON_WS_PREFIX).print(b"common_ws_prefix");
-    replayed(v, STARTS_WITH).print(b"starts_with");
-    replayed(v, ENDS_WITH).print(b"ends_with");
-    replayed(v, LINE_END).print(b"line_end");
-    replayed(v, LINE_FEEDS).print(b"line_feeds");
+fn replay_all(rt: &impl Print, v: &[u8]) -> Result<()> {
+    replayed(v, IS_UTF8).print(rt, b"is_utf8")?;
+    replayed(v, TRIM_END).print(rt, b"trim_end")?;
+    replayed(v, TRIM).print(rt, b"trim")?;
+    replayed(v, COMMON_WS_PREFIX).print(rt, b"common_ws_prefix")?;
+    replayed(v, STARTS_WITH).print(rt, b"starts_with")?;
+    replayed(v, ENDS_WITH).print(rt, b"ends_with")?;
+    replayed(v, LINE_END).print(rt, b"line_end")?;
+    replayed(v, LINE_FEEDS).print(rt, b"line_feeds")
 }
 
-fn main() {
-    line(b"strings of one byte", ONES as u64);
-    all_of_one().print();
-    line(b"strings of two bytes", TWOS as u64);
-    all_of_two().print();
-    let mut file = io::large_buffer();
-    let n = load(b"vectors.bin", &mut file);
-    replay_all(front(&file, n));
+fn main(rt: HostRuntime) -> Result<()> {
+    line(&rt, b"strings of one byte", ONES as u64)?;
+    all_of_one().print(&rt)?;
+    line(&rt, b"strings of two bytes", TWOS as u64)?;
+    all_of_two().print(&rt)?;
+    let mut file = [0u8; FILE];
+    let n = load(&rt, "vectors.bin", &mut file)?;
+    replay_all(&rt, front(&file, n))
 }

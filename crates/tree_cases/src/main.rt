@@ -7,9 +7,10 @@ ghost use Rattle.tree.specs.Index.{Indexed};
 
 use cases::{
     Agreement, behind, behind_fields, byte, front, line, load, more, nth_field, number, put,
-    put_all, word,
+    put_all, word, zeros,
 };
 use numbers::refusal::number_of;
+use std::io::Result;
 use tree::class::Kinds;
 use tree::{Found, Tested};
 
@@ -33,8 +34,10 @@ const ANSWER: usize = 3;
 // How many values a byte has.
 const VALUES: usize = 256;
 
-// Room for the largest index and the largest file.
+// Room for the largest index, for the image that is damaged and for the largest file.
 const TABLE: usize = 12291;
+
+const IMAGE: usize = 4096;
 
 const FILE: usize = 524288;
 
@@ -193,30 +196,35 @@ fn changed(image: &mut [u8], n: usize, want: &[u8]) -> u64 {
 }
 
 // Every shorter beginning of an image, and every copy with one byte changed.
-fn damage(v: &[u8]) {
-    let mut image = io::buffer();
+fn damage(rt: &impl Print, v: &[u8]) -> Result<()> {
+    let mut image = [0u8; IMAGE];
     let n = put_all(&mut image, 0, nth_field(v, 0));
-    line(b"beginnings", n as u64);
-    line(b"  agree", beginnings(front(&image, n), nth_field(v, 1)));
-    line(b"bytes changed", n as u64);
+    line(rt, b"beginnings", n as u64)?;
     line(
+        rt,
+        b"  agree",
+        beginnings(front(&image, n), nth_field(v, 1)),
+    )?;
+    line(rt, b"bytes changed", n as u64)?;
+    line(
+        rt,
         b"  agree for every value",
         changed(&mut image, n, behind_fields(v, 2)),
-    );
+    )
 }
 
-fn replay_all(v: &[u8]) {
-    replayed(v, REFUSAL).print(b"refusals");
-    replayed(v, INDEX).print(b"indexes");
-    replayed(v, NTH).print(b"n-th parts");
-    replayed(v, LAST).print(b"last parts");
-    replayed(v, PLUS).print(b"plus signs");
+fn replay_all(rt: &impl Print, v: &[u8]) -> Result<()> {
+    replayed(v, REFUSAL).print(rt, b"refusals")?;
+    replayed(v, INDEX).print(rt, b"indexes")?;
+    replayed(v, NTH).print(rt, b"n-th parts")?;
+    replayed(v, LAST).print(rt, b"last parts")?;
+    replayed(v, PLUS).print(rt, b"plus signs")
 }
 
-fn main() {
-    let mut file = [0u8; FILE];
-    let n = load(b"vectors.bin", &mut file);
-    replay_all(front(&file, n));
-    let m = load(b"damaged.bin", &mut file);
-    damage(front(&file, m));
+fn main(rt: HostRuntime) -> Result<()> {
+    let mut file = zeros::<FILE>();
+    let n = load(&rt, "vectors.bin", &mut file)?;
+    replay_all(&rt, front(&file, n))?;
+    let m = load(&rt, "damaged.bin", &mut file)?;
+    damage(&rt, front(&file, m))
 }

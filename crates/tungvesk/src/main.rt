@@ -1,68 +1,64 @@
 // Prints the listing of the tree image on standard input in the plain mode, or the line of its refusal.
 #![tactic(auto)]
 
-ghost use Rattle.std.specs.Prelude.{◌≡◌, ◌+◌, ◌≤◌, length, take};
-ghost use Rattle.tungvesk.specs.Input.{bytes_of};
+ghost use Rattle.std.specs.Prelude.{◌≡◌, ◌+◌, ◌≤◌, IfOk, length, take};
 
 use formatter::program::respond;
-use libc::{STDIN_FILENO, STDOUT_FILENO};
 use numbers::mode::Mode;
+use std::io::{Error, Read, Result};
+use std::process::ExitCode;
 
-// How many bytes were read, or that reading failed.
-#[derive(Clone, Copy)]
-enum Input {
-    Bytes(usize),
-    Failed,
-}
+// Room for an image, and for what is printed of it.
+const ROOM: usize = 65_536;
 
-// Reads once, behind the first bytes of a buffer, which stay. No bytes is the end of the input.
-fn read_more(buffer: &mut [u8], at: usize) -> Input
+// Reads once, behind the first bytes of a buffer, which stay, and says how many bytes were read. None is the end of the input.
+fn read_more<R: Read>(input: &mut R, buffer: &mut [u8], at: usize) -> Result<usize>
     requires { at ≤ length buffer.old }
-    ensures result_in_bounds { at + bytes_of result ≤ length buffer.old }
+    ensures result_in_bounds { IfOk result (λ n. at + n ≤ length buffer.old) }
     ensures buffer_unchanged { take at buffer.new ≡ take at buffer.old }
 {
-    let got = libc::read(STDIN_FILENO, &mut buffer[at..]);
-    if got < 0 {
-        return Input::Failed;
-    }
-    Input::Bytes(io::count(got, &buffer[at..]))
+    let got = input.read(&mut buffer[at..])?;
+    Ok(got)
 }
 
-// Reads until the input ends or the buffer is full, since a pipe hands out its bytes in pieces.
-fn read_input(buffer: &mut [u8]) -> Input
-    ensures { bytes_of result ≤ length buffer.new }
+// Reads until the input ends or the buffer is full, since a pipe hands out its bytes in pieces, and says how many bytes were read.
+fn read_input<R: Read>(input: &mut R, buffer: &mut [u8]) -> Result<usize>
+    ensures { IfOk result (λ n. n ≤ length buffer.new) }
 {
     let mut n = 0;
     while n < buffer.len() {
-        let more = read_more(buffer, n);
-        let Input::Bytes(k) = more else {
-            return more;
-        };
-        if k == 0 {
+        let more = read_more(input, buffer, n)?;
+        if more == 0 {
             break;
         }
-        n += k;
+        n += more;
     }
-    Input::Bytes(n)
+    Ok(n)
 }
 
-// Prints what there is to say of an image, and says whether all of it was written.
-fn print(image: &[u8]) -> bool {
-    let mut out = io::large_buffer();
+// Prints what there is to say of an image.
+fn print(rt: &impl Print, image: &[u8]) -> Result<()> {
+    let mut out = [0u8; ROOM];
     let r = respond(image, Mode::Plain, &mut out);
     let n = r.bytes;
-    io::write_all(STDOUT_FILENO, &out[..n])
+    rt.write_all(&out[..n])
 }
 
-fn main() {
+// Says on standard error what failed, and why.
+fn fail(rt: &impl Eprint, what: &str, error: Error) -> ExitCode {
+    let _ = eprintln!(rt; "tungvesk: {what}: {error}");
+    ExitCode::FAILURE
+}
+
+fn main(rt: HostRuntime) -> ExitCode {
     // Of a longer input only as much as fits is taken.
-    let mut input = io::large_buffer();
-    let got = read_input(&mut input);
-    let Input::Bytes(n) = got else {
-        os::fail(b"tungvesk: standard input");
-        return;
+    let mut input = [0u8; ROOM];
+    let n = match read_input(&mut rt.stdin(), &mut input) {
+        Ok(n) => n,
+        Err(error) => return fail(&rt, "standard input", error),
     };
-    if !print(&input[..n]) {
-        os::fail(b"tungvesk: standard output");
+    match print(&rt, &input[..n]) {
+        Ok(()) => ExitCode::SUCCESS,
+        Err(error) => fail(&rt, "standard output", error),
     }
 }

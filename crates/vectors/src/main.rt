@@ -4,13 +4,16 @@
 
 ghost use Rattle.vectors.specs.Replies.{Replies};
 
-use cases::{behind_long_field, front, line, load, long_field};
+use cases::{behind_long_field, front, line, load, long_field, zeros};
 use formatter::program::respond;
-use libc::STDOUT_FILENO;
 use numbers::mode::Mode;
+use std::io::Result;
 
 // Room for the file.
 const FILE: usize = 524_288;
+
+// Room for what is printed of an image.
+const REPLY: usize = 65_536;
 
 // An answer is counted by its number: 0 for a listing, that of a refusal, and one that no refusal has if it is not the one in the
 // file.
@@ -24,10 +27,10 @@ const ANSWERS: usize = 256;
 fn replied(image: &[u8], mode: Mode, want: &[u8]) -> usize
     ensures { Replies mode image.now want.now result }
 {
-    let mut out = io::large_buffer();
+    let mut out = [0u8; REPLY];
     let r = respond(image, mode, &mut out);
     let n = r.bytes;
-    if check::same(&out[..n], want) {
+    if &out[..n] == want {
         r.number as usize
     } else {
         DIFFERENT
@@ -58,36 +61,42 @@ fn counted(counts: &[u64], k: usize) -> u64 {
     if k < counts.len() { counts[k] } else { 0 }
 }
 
-fn report_refusal(k: usize, n: u64) {
-    io::write_all(STDOUT_FILENO, b"refused ");
-    io::print_decimal(STDOUT_FILENO, k as u64);
-    line(b"", n);
+fn report_refusal(rt: &impl Print, k: usize, n: u64) -> Result<()> {
+    print!(rt; "refused {k}")?;
+    line(rt, b"", n)
 }
 
 // Prints a line for each number of a refusal.
-fn report_refusals(counts: &[u64]) {
+fn report_refusals(rt: &impl Print, counts: &[u64]) -> Result<()> {
     for k in 1..=REFUSALS {
-        report_refusal(k, counted(counts, k));
+        report_refusal(rt, k, counted(counts, k))?;
     }
+    Ok(())
 }
 
 // Replays the images of a file in a mode, and reports.
-fn report(v: &[u8], mode: Mode, title: &[u8]) {
+fn report(rt: &impl Print, v: &[u8], mode: Mode, title: &[u8]) -> Result<()> {
     let mut counts = [0u64; ANSWERS];
-    line(title, replay(v, mode, &mut counts));
-    line(b"listings", counted(&counts, 0));
-    report_refusals(&counts);
-    line(b"differ", counted(&counts, DIFFERENT));
+    line(rt, title, replay(v, mode, &mut counts))?;
+    line(rt, b"listings", counted(&counts, 0))?;
+    report_refusals(rt, &counts)?;
+    line(rt, b"differ", counted(&counts, DIFFERENT))
 }
 
-fn main() {
-    let mut file = [0u8; FILE];
-    let n = load(b"vectors.bin", &mut file);
-    report(front(&file, n), Mode::Plain, b"images in the plain mode");
-    let k = load(b"keeping.bin", &mut file);
+fn main(rt: HostRuntime) -> Result<()> {
+    let mut file = zeros::<FILE>();
+    let n = load(&rt, "vectors.bin", &mut file)?;
     report(
+        &rt,
+        front(&file, n),
+        Mode::Plain,
+        b"images in the plain mode",
+    )?;
+    let k = load(&rt, "keeping.bin", &mut file)?;
+    report(
+        &rt,
         front(&file, k),
         Mode::Keeping,
         b"images in the keeping mode",
-    );
+    )
 }
