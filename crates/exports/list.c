@@ -1,6 +1,6 @@
 // Lists the print items of the tree image on standard input in the mode with the number given, 0 (plain) by default, 1 (keeping).
-//     (cd crates/exports && rt lib)
-//     cc -o target/list crates/exports/list.c crates/exports/out/libexports.a
+//     crates/exports_c/archive
+//     cc -o target/list crates/exports/list.c target/staticlib/libexports.a
 #include <inttypes.h>
 #include <stdio.h>
 #include <stdlib.h>

@@ -1,4 +1,4 @@
-// Functions for programs in other languages. `oracle/crates/compare` calls them from Rust.
+// Functions for programs in other languages. `exports_c` hands them to C, and `oracle/crates/compare` calls them from Rust.
 #![tactic(auto)]
 
 pub mod print;
@@ -55,8 +55,7 @@ fn tell(counts: &mut [u32; 4], p: Printed) -> u32
 }
 
 // The records of a trivia token or a custom error, given its kind and its text, in a place.
-#[unsafe(no_mangle)]
-pub extern "C" fn tungvesk_comment(
+pub fn tungvesk_comment(
     kind: u32,
     at: u32,
     s: &[u8],
@@ -94,8 +93,7 @@ fn say(t: Tested) -> Verdict
 }
 
 // What the tests 1 to 9 say of an image.
-#[unsafe(no_mangle)]
-pub extern "C" fn tungvesk_refusal(image: &[u8], values: &mut [u32; 2]) -> u32
+pub fn tungvesk_refusal(image: &[u8], values: &mut [u32; 2]) -> u32
     ensures value { result ≡ number (answer image.now) }
     ensures values_after { values.new ≡ sets values.old 0 (both_values (answer image.now)) }
 {

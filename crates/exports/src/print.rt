@@ -91,8 +91,7 @@ fn report_listed(a: ListAnswer) -> Report
 
 // The records of a tree image in the mode with a number, with the four counts and 0; or the number of a refusal, with four times 0 and
 // its element. For a number that no mode has nothing is written.
-#[unsafe(no_mangle)]
-pub extern "C" fn tungvesk_print(
+pub fn tungvesk_print(
     image: &[u8],
     mode: u32,
     records: &mut [u32],
@@ -118,8 +117,7 @@ pub extern "C" fn tungvesk_print(
 }
 
 // The same with the listing, whose length stands behind the four counts.
-#[unsafe(no_mangle)]
-pub extern "C" fn tungvesk_list(
+pub fn tungvesk_list(
     image: &[u8],
     mode: u32,
     records: &mut [u32],

@@ -4,7 +4,7 @@
 
 use std::{env, path::Path};
 
-const DEFAULT: &str = "../crates/exports/out";
+const DEFAULT: &str = "../target/staticlib";
 
 fn main() {
     println!("cargo::rerun-if-env-changed=TUNGVESK_LIB");

@@ -54,7 +54,7 @@ fn main() -> ExitCode {
     let reports = run(seed, count as usize);
     if reports.is_empty() {
         eprintln!(
-            "nothing was compared: `rt lib` in crates/exports writes the library's archive, and \
+            "nothing was compared: `crates/exports_c/archive` writes the library's archive, and \
              TUNGVESK_LIB names its directory"
         );
         return ExitCode::FAILURE;
@@ -98,7 +98,7 @@ mod tests {
     #[test]
     #[cfg_attr(
         not(library),
-        ignore = "no libexports.a: `rt lib` in crates/exports writes it"
+        ignore = "no libexports.a: `crates/exports_c/archive` writes it"
     )]
     fn the_library_gives_what_the_oracle_gives() {
         let reports = deep(|| run(DEFAULT_SEED, 1_000));
