@@ -2,14 +2,14 @@
 """Writes the tables of crates `plan` and `printer` from the readable list of rows.
 
 The list is `rows` in specs/Layout.antt: for each kind of node with a fixed layout, the pieces that it prints. From it follow the
-numbers of wanted parts and pieces (specs/Rows.antt), the code's tables over them (src/rows.rt) with a line of proof for each entry
+numbers of wanted parts and pieces (specs/Rows.antt), the code's tables over them (src/rows.rt) with an answer for each entry
 (proofs/rows), and the numbers of texts, which the writer of a plan knows (crate `plan`: specs/Words.antt, src/words.rt). A
 text that the code prints by itself has a constant in src/words.rt, and stands in FIXED below at the constant's number.
 
     crates/printer/tables.py            writes these files
     crates/printer/tables.py --check    names the files that would change, and changes none
 
-After it come `rt fmt` and `rt check printer`, which proves that the tables are those of the definitions.
+After it come `rt fmt` and `rt check` in `printer`, which proves that the tables are those of the definitions.
 """
 import re
 import sys

@@ -1,4 +1,4 @@
--- 'Putting back: `run` and `run_end` fall away, and `again` k becomes what stood between run k and its run-end, itself put back; all else stays.'
+-- 'Putting back: `run` and `run-end` fall away, and `again` k becomes what stood between run k and its run-end, itself put back; all else stays.'
 use Rattle.std.specs.Prelude.{cond, List, [], ◌∷◌, ◌++◌, ℕ, eqb}
 use Rattle.items.specs.Item.{Item}
 use Rattle.items.specs.Role.{Role, stays, marks, opens, closes, repeats, role}
@@ -32,7 +32,7 @@ emit xs s = record { out = s.out ++ xs; outer = s.outer; bodies = s.bodies }
 abbrev pub opened : ℕ → State → State
 opened k s = record { out = []; outer = record { number = k; before = s.out } ∷ s.outer; bodies = s.bodies }
 
--- the run-end of run k: '`run_end` fall away'. It closes the innermost open run if that is run k ('run k and its run-end'), and no run if not.
+-- the run-end of run k: '`run-end` fall away'. It closes the innermost open run if that is run k ('run k and its run-end'), and no run if not.
 unfoldable pub closed : ℕ → List Open → State → State
 closed k [] s = s
 closed k (r ∷ outer) s =

@@ -242,8 +242,7 @@ fn after(p: Size, bytes: u32, line: u32) -> Size
     }
 }
 
-// Advances the size that is lent by a record. It is thin: the checker covers no reference to a struct, so this function and the
-// next are proved by walks of their operations.
+// Advances the size that is lent by a record.
 fn advance(p: &mut Size, bytes: u32, line: u32)
     requires { RoomAfter bytes line p.old }
     ensures { p.new ≡ size_after bytes line p.old }
@@ -251,7 +250,7 @@ fn advance(p: &mut Size, bytes: u32, line: u32)
     *p = after(*p, bytes, line);
 }
 
-// Lends the size for a record, and gives it back: whoever calls this lends none and needs no walk.
+// Lends the size for a record, and gives it back: whoever calls this lends none.
 fn advanced(mut p: Size, bytes: u32, line: u32) -> Size
     requires { RoomAfter bytes line p }
     ensures { result ≡ size_after bytes line p }

@@ -1,7 +1,5 @@
-// A reader: an image, and the place of what is read next. X
-// reference, so each of the first six here takes one step, and is proved by a walk of its operations. What is read at a
-// place are covered functions of a slice and a number (`bytes.rt`). The last four take an image and a place: whoever calls
-// them has no reader and needs no walk.
+// A reader: an image, and the place of what is read next. What is read at a place are functions of a slice and a number
+// (`bytes.rt`). The last four take an image and a place: whoever calls them has no reader.
 ghost use Rattle.std.specs.Prelude.{◌≡◌, ◌+◌, ◌-◌, ◌<◌, ◌^◌, length};
 ghost use Rattle.tree.specs.Tree.{le16, le32};
 ghost use Rattle.tree.specs.Image.{header_at};
