@@ -23,7 +23,7 @@ CLASS, KIND = (HERE.parent / path for path in ("tree/src/class.rt", "numbers/src
 # The texts of the constants of src/words.rt; number 0 is no text.
 FIXED = ["", ",", " ", "[ ]", "[", "]", "{ }", "{", "}", "(", ")", "local", "local ", ";", "/*missing ExprBase*/", "/*missing Expr*/"]
 
-# What a piece prints, as src/rows.rt numbers it.
+# What a piece prints, as `what_in` of src/rows.rt reads it.
 TEXT, NEW_LINE, INDENT, OUTDENT, PART, EACH, EACH_ENDED, PLUS = range(8)
 SIGNALS = {"NewLine": NEW_LINE, "StartIndent": INDENT, "FinishIndent": OUTDENT}
 

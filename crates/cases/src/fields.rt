@@ -1,7 +1,8 @@
 // The fields of a file of cases: each has its length in front of its bytes. What the file is too short for is left out.
 // That what is left behind a field is shorter is said too, so that a walk over a file is seen to end.
-ghost use Rattle.std.specs.Prelude.{◌≡◌, ◌-◌, ◌≤◌, length};
-ghost use Rattle.cases.specs.Fields.{field, behind_fields, long_field, behind_long_field};
+ghost use Rattle.std.specs.Prelude.{◌≡◌, ◌-◌, ◌<◌, ◌≤◌, length};
+ghost use Rattle.std.specs.Iterator.{at_most};
+ghost use Rattle.cases.specs.Fields.{IsNextCase, field, behind_fields, long_field, behind_long_field};
 
 use crate::read::{behind, front, number, number24};
 
@@ -17,8 +18,7 @@ pub fn behind_fields(s: &[u8], n: usize) -> &[u8]
 {
     let mut rest = s;
     for _ in 0..n {
-        let next = behind(rest, SHORT + number(rest) as usize);
-        rest = next;
+        rest = behind(rest, SHORT + number(rest) as usize);
     }
     rest
 }
@@ -29,6 +29,41 @@ pub fn nth_field(s: &[u8], n: usize) -> &[u8]
 {
     let rest = behind_fields(s, n);
     front(behind(rest, SHORT), number(rest) as usize)
+}
+
+// The cases of a file, each of so many fields. An item begins with its case's fields; the later cases stand behind them.
+#[derive(Drop)]
+pub struct Cases<'a> {
+    rest: &'a [u8],
+    fields: usize,
+    ghost some: { 0 < fields },
+}
+
+impl<'a> Cases<'a> {
+    pub fn of(s: &'a [u8], fields: usize) -> Self
+        requires { 0 < fields }
+        ensures rest_value { result.rest.now ≡ s.now }
+        ensures fields_value { result.fields ≡ fields }
+    {
+        Cases { rest: s, fields }
+    }
+}
+
+impl<'a> Iterator for Cases<'a> {
+    type Item = &'a [u8];
+
+    ghost next_gives = { λ s r t. IsNextCase s.fields s.rest.now r t.fields t.rest.now };
+
+    ghost remaining = { λ s. at_most (length s.rest.now) };
+
+    fn next(&mut self) -> Option<&'a [u8]> {
+        if self.rest.is_empty() {
+            return None;
+        }
+        let case = self.rest;
+        self.rest = behind_fields(case, self.fields);
+        Some(case)
+    }
 }
 
 // The bytes of the first field, whose length takes three bytes.

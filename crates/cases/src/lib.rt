@@ -6,7 +6,7 @@ mod read;
 mod store;
 mod tally;
 
-pub use fields::{behind_fields, behind_long_field, long_field, nth_field};
+pub use fields::{Cases, behind_fields, behind_long_field, long_field, nth_field};
 pub use read::{behind, byte, front, number, number32, word};
 pub use store::{load, put, put_all, zeros};
 pub use tally::{Agreement, line, more};

@@ -7,14 +7,14 @@ ghost use Rattle.cases.specs.Fields.{le16, le24, le32};
 pub fn byte(s: &[u8], at: usize) -> u8
     ensures { result ≡ slice_index s.now at }
 {
-    if at < s.len() { s[at] } else { 0 }
+    s.get(at).copied().unwrap_or(0)
 }
 
 // The word at a place, 0 past the end.
 pub fn word(t: &[u32], at: usize) -> u32
     ensures { result ≡ slice_index t.now at }
 {
-    if at < t.len() { t[at] } else { 0 }
+    t.get(at).copied().unwrap_or(0)
 }
 
 // The first n bytes, or all of them if there are fewer.
@@ -22,7 +22,7 @@ pub fn front(s: &[u8], n: usize) -> &[u8]
     ensures result_value { result.now ≡ take n s.now }
     ensures result_len { length result.now ≡ min n (length s.now) }
 {
-    if n <= s.len() { &s[..n] } else { s }
+    s.get(..n).unwrap_or(s)
 }
 
 // What stands behind the first n bytes.
@@ -30,26 +30,26 @@ pub fn behind(s: &[u8], n: usize) -> &[u8]
     ensures result_value { result.now ≡ drop n s.now }
     ensures result_len { length result.now ≡ length s.now - n }
 {
-    if n <= s.len() { &s[n..] } else { &s[..0] }
+    s.get(n..).unwrap_or(&s[..0])
 }
 
 // The number of the first two bytes.
 pub fn number(s: &[u8]) -> u16
     ensures { result ≡ le16 s.now }
 {
-    byte(s, 0) as u16 + 256 * (byte(s, 1) as u16)
+    u16::from_le_bytes([byte(s, 0), byte(s, 1)])
 }
 
 // The number of the first three bytes.
 pub(crate) fn number24(s: &[u8]) -> u32
     ensures { result ≡ le24 s.now }
 {
-    number(s) as u32 + 65536 * (byte(s, 2) as u32)
+    u32::from_le_bytes([byte(s, 0), byte(s, 1), byte(s, 2), 0])
 }
 
 // The number of the first four bytes.
 pub fn number32(s: &[u8]) -> u32
     ensures { result ≡ le32 s.now }
 {
-    number(s) as u32 + 65536 * (byte(s, 2) as u32) + 16777216 * (byte(s, 3) as u32)
+    u32::from_le_bytes([byte(s, 0), byte(s, 1), byte(s, 2), byte(s, 3)])
 }

@@ -15,11 +15,7 @@ pub struct Agreement {
 pub fn more(n: u64, holds: bool) -> u64
     ensures { result ≡ more_if n holds }
 {
-    if holds {
-        std::num::wrapping_add_u64(n, 1)
-    } else {
-        n
-    }
+    if holds { n.wrapping_add(1) } else { n }
 }
 
 // One line: a label, a space and a number.

@@ -6,13 +6,13 @@ use mathlib.Core.List.{List, [], ◌∷◌, ◌++◌, append-nil, append_assoc}
 use Prim.Native.Nat.{ℕ, ◌-◌, ◌<◌, ◌≤◌}
 use native.Mathlib.Omega.{arith}
 use lib.Dec.{ltb}
-use borrow.Author.Tests.{lt-ltb, le-ltb, ltb-true, ltb-false, not-true, not-false}
+use borrow.Author.Tests.{ltb-true, ltb-false, not-true, not-false}
 use Rattle.text.specs.Basic.{present}
 use Rattle.tree.specs.Tree.{Part}
 use Rattle.tree.specs.declared.class.Class.{Class}
 use Rattle.tree.specs.declared.class.Kinds.{Kinds}
-use Rattle.tree.specs.declared.Found.{Found}
-use Rattle.tree.specs.declared.Found.TheVariants.{At, Nothing}
+use Rattle.std.specs.Prelude as std
+use Rattle.std.specs.Prelude.{Some, None}
 use Rattle.numbers.specs.declared.Element.{Element}
 use Rattle.tree.specs.Class.{is, of_kind, one_of, number_of, all_of}
 use Rattle.tree.specs.Answer.{found}
@@ -27,16 +27,6 @@ use Rattle.children.proofs.Among.{Among, among, among_in, among-behind, among-up
 use Rattle.children.proofs.Stretch.{note-kinds, jumps-le, jumps-next, jumps-behind}
 
 -- ---- children_between
-
-module _ {f : Found} {n : Element} (q : f ≡ At n) where
-  pub from_some : (index : List ℕ) (a : ℕ) {r : ℕ} → r ≡ end_at index n.0 → r ≡ from_at index (found f) a
-  from_some index a e = rw (q, e)
-
-  pub to_end : (from b : ℕ) → n.0 < from → b ≡ to_at (found f) from b
-  to_end from b h = rw (q, lt-ltb n.0 from h)
-
-  pub to_some : (from b : ℕ) → from ≤ n.0 → n.0 ≡ to_at (found f) from b
-  to_some from b h = rw (q, le-ltb n.0 from h)
 
 module _ {index image : List ℕ} {a b : ℕ} (r : Region image index a b) where
   -- each of these numbers is among the siblings
@@ -141,7 +131,7 @@ pub kept_is : (k : ℕ) {u v : Bool} {w : Kinds} → w ≡ notes → u ≡ one_o
 unfolding is_kept
 kept_is k e p q = rw (p, e, q)
 
-pub strict-beside : {index image : List ℕ} {a b : ℕ} {f : Found} → Region image index a b → found f ≡ foreign_in (parts_from image index a b) → Beside image index (strict (parts_from image index a b)) a b (record { from = a; to = b; foreign = f })
+pub strict-beside : {index image : List ℕ} {a b : ℕ} {f : std.Option Element} → Region image index a b → found f ≡ foreign_in (parts_from image index a b) → Beside image index (strict (parts_from image index a b)) a b (record { from = a; to = b; foreign = f })
 strict-beside r e = record { begins = refl; ends = refl; region = r; read = strict_is _ ∙ rw e }
 
 -- The first foreign element of all is that of those that are left.
@@ -228,8 +218,8 @@ module _ {index image : List ℕ} {a b j : ℕ} (K : Heading index image a b j) 
 
 -- ---- trivia_before and trivia_after
 
-module _ {index image : List ℕ} {a b : ℕ} {e : Found} (E : Ends image index a b (found e) none) where
-  module _ {n : Element} (q : e ≡ At n) where
+module _ {index image : List ℕ} {a b : ℕ} {e : std.Option Element} (E : Ends image index a b (found e) none) where
+  module _ {n : Element} (q : e ≡ Some n) where
     spot : Among E.region n.0
     spot = among E.region (E.starts n.0 (rw q))
 
@@ -249,13 +239,13 @@ module _ {index image : List ℕ} {a b : ℕ} {e : Found} (E : Ends image index 
     after-some f h none p = let z : ◌≡◌ {A = ℕ} 0 1 = cc in absurd (omega arith)
     after-some f h (some x) p = let m : x.number ≡ n.0 = cc in rw (m, among-behind spot, q, ← f) h
 
-  module _ (q : e ≡ Nothing) where
-    pub before-none : {to : ℕ} → Led image index a b to → (x : Option Part) → number_of x ≡ found e → Beside image index (trivia_before x (parts_from image index a b)) a (before_to index (found e) a (parts_from image index a b)) (record { from = a; to = to; foreign = Nothing })
+  module _ (q : e ≡ None) where
+    pub before-none : {to : ℕ} → Led image index a b to → (x : Option Part) → number_of x ≡ found e → Beside image index (trivia_before x (parts_from image index a b)) a (before_to index (found e) a (parts_from image index a b)) (record { from = a; to = to; foreign = None })
     unfolding trivia_before
     before-none l none p = record { begins = refl; ends = rw q l.ends; region = l.region; read = rw l.read }
     before-none l (some x) p = let z : ◌≡◌ {A = ℕ} 0 1 = cc in absurd (omega arith)
 
-    pub after_none : (x : Option Part) → number_of x ≡ found e → Beside image index (trivia_after x (parts_from image index a b)) (from_at index (found e) b) b (record { from = b; to = b; foreign = Nothing })
+    pub after_none : (x : Option Part) → number_of x ≡ found e → Beside image index (trivia_after x (parts_from image index a b)) (from_at index (found e) b) b (record { from = b; to = b; foreign = None })
     unfolding trivia_after all_of
     after_none none p = record { begins = rw q; ends = refl; region = record { n = E.region.n; table = E.region.table; begins = E.region.ends; ends = E.region.ends }; read = rw (parts-over index image b b (omega arith)) }
     after_none (some x) p = let z : ◌≡◌ {A = ℕ} 0 1 = cc in absurd (omega arith)

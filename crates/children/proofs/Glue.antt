@@ -6,6 +6,8 @@ use mathlib.Core.List.{List, [], ◌∷◌, ◌++◌, append-nil, append_assoc}
 use Rattle.text.specs.Basic.{present}
 use Rattle.tree.specs.Tree.{Part}
 use Rattle.tree.specs.Class.{is, kinds}
+use Rattle.std.specs.declared.ops.ControlFlow.TheVariants.{Continue}
+use Rattle.children.specs.declared.turn.Go.TheVariants as Go
 use Rattle.children.specs.Reading.{Child, Reading, foreign, Pass, finished, child_from, pass, step, start}
 use Rattle.children.specs.Gaps.{Gap, Gaps, breaks, stopped, ending, widen, gaps, turn, trivia_turn, other_turn}
 use Rattle.tree.specs.declared.class.Class.{Class}
@@ -60,6 +62,12 @@ finished-none : (ds : List Child) (c : Option Child) (ws : List Part) (s h h' : 
 finished-none ds none ws s h h' = rw (append-nil ws)
 finished-none ds (some c) ws s h h' = rw (append-nil ws, append-nil c.inline)
 
+glued-child : (ds : List Child) (c : Option Child) (ws : List Part) (s h : Bool) (x : Part) (gs : Gaps)
+    → glued (passing ds c ws s h) (Gaps.child (G.gap_of [] [] h) x gs) ≡ glued (child_from ws x (passing ds c ws s h)) gs
+unfolding glued
+glued-child ds none ws s h x gs = rw (append-nil ws)
+glued-child ds (some c) ws s h x gs = rw (append-nil ws, append-nil c.inline)
+
 -- what waits already, or has no child to belong to
 abbrev pub waits : Bool → Option Child → Bool
 waits s c = s || not (present c)
@@ -73,9 +81,8 @@ module _ (wanted : Class) (loose : Bool) (x : Part) (xs : List Part) where
   Here = (ds : List Child) (c : Option Child) (ws : List Part) (s h : Bool) → pass wanted loose (x ∷ xs) (passing ds c ws s h) ≡ glued (passing ds c ws s h) (gaps (kinds wanted) loose (waits s c) h (x ∷ xs))
 
   at-child : is wanted x ≡ true → Behind → Here
-  unfolding pass step gaps turn glued
-  at-child e f ds none ws s h = rw (e, append-nil ws) (f _ (some _) _ _ _)
-  at-child e f ds (some c) ws s h = rw (e, append-nil ws, append-nil c.inline) (f _ (some _) _ _ _)
+  unfolding pass step gaps turn
+  at-child e f ds c ws s h = rw e (f _ (some _) _ _ _ ∙ sym (glued-child ds c ws s h x _))
 
   at-trivia : is wanted x ≡ false → is Class.Trivia x ≡ true → Behind → Here
   unfolding pass step gaps turn trivia_turn
@@ -87,7 +94,7 @@ module _ (wanted : Class) (loose : Bool) (x : Part) (xs : List Part) where
       go : (b l : Bool) → R.onward
           (cond b (R.on (R.wait x true true (passing ds (some c) ws false h))) (R.on (record { done = ds; current = R.add_inline x (some c); waiting = ws; started_next = l; had_some = true; trailing = none })))
           (passing ds (some c) ws false h) (pass wanted loose xs)
-          ≡ glued (passing ds (some c) ws false h) (G.turned (cond b (G.on G.wait) (cond l (G.on G.last) (G.on G.inline))) x false h (λ s h. gaps (kinds wanted) loose s h xs))
+          ≡ glued (passing ds (some c) ws false h) (G.turned (cond b (Continue Go.Wait) (cond l (Continue Go.Last) (Continue Go.Inline))) x false h (λ s h. gaps (kinds wanted) loose s h xs))
       go true l = f ds (some c) (ws ++ x ∷ []) true true ∙ sym (glued-wait ds (some c) ws false h true true x _)
       go false true = f ds (R.add_inline x (some c)) ws true true ∙ sym (glued-inline ds (some c) ws false h true true x _)
       go false false = f ds (R.add_inline x (some c)) ws false true ∙ sym (glued-inline ds (some c) ws false h false true x _)

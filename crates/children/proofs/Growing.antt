@@ -2,8 +2,9 @@
 use mathlib.Core.Path.{◌≡◌, refl, sym, ◌∙◌}
 use mathlib.Core.Bool.{Bool, true, false, cond, not, ◌&&◌, ◌||◌, or-false}
 use mathlib.Core.List.{List, [], ◌∷◌, ◌++◌, append-nil, append_assoc}
-use Prim.Native.Nat.{ℕ, zero, suc, ◌+◌, ◌*◌, ◌-◌, ◌<◌, ◌≤◌}
+use Prim.Native.Nat.{ℕ, zero, suc, ◌+◌, ◌*◌, ◌-◌, ◌<◌, ◌≤◌, ◌^◌}
 use native.Mathlib.Omega.{arith}
+use mir.Val.{bool_byte}
 use lib.Dec.{eqb}
 use lib.ListN.{length, take, drop}
 use borrow.Author.Tests.{not-true}
@@ -95,16 +96,16 @@ counted-few b k f t = go b t.ended (of_kind Class.CustomError k) (of_kind Class.
 
 -- ---- `tallied`
 
--- one of two is no more than both
-pub picked-few : (b : Bool) (r x y : ℕ) → r ≡ cond b x y → r ≤ x + y
-picked-few true r x y e = omega arith
-picked-few false r x y e = omega arith
+-- a test as a number
+bool_is : (b : Bool) → bool_byte b ≡ cond b 1 0
+bool_is true = refl
+bool_is false = refl
 
-pub counted_is : (t : Tally) (follows : Bool) (k f : ℕ) {e v l : Bool} {p q m i o : ℕ} → e ≡ of_kind Class.CustomError k → v ≡ of_kind Class.Trivia k → l ≡ of_kind Class.SingleLine k
-    → p ≡ cond follows 0 f → q ≡ cond e 1 0 → i ≡ cond l 1 (f + t.back) → m ≡ cond t.ended 0 (p + q) → o ≡ cond follows i t.back
-    → record { before = t.before + m; back = o; waits = (t.waits || e) || (v && not follows); ended = t.ended || ((v && not (eqb k 64)) && not follows); noted = (t.noted || e) || (v && not (eqb k 64)) } ≡ counted follows k f t
+pub counted_is : (t : Tally) (follows : Bool) (k f : ℕ) {e v l : Bool} {p q n i o : ℕ} → e ≡ of_kind Class.CustomError k → v ≡ of_kind Class.Trivia k → l ≡ of_kind Class.SingleLine k
+    → p ≡ cond follows 0 f → q ≡ bool_byte e → i ≡ cond l 1 (f + t.back) → n ≡ cond t.ended 0 (p + q) → o ≡ cond follows i t.back
+    → record { before = t.before + n; back = o; waits = (t.waits || e) || (v && not follows); ended = t.ended || ((v && not (eqb k 64)) && not follows); noted = (t.noted || e) || (v && not (eqb k 64)) } ≡ counted follows k f t
 unfolding counted
-counted_is t follows k f a b c d e g h i = rw (h, i, g, d, e, a, b, c)
+counted_is t follows k f a b c d e g h i = rw (h, i, g, d, e, bool_is, a, b, c)
 
 -- what an element that counts nothing makes of the numbers and tests of a tally
 none_before : (n : ℕ) (ended follows : Bool) → n + cond ended 0 (cond follows 0 0 + 0) ≡ n
@@ -150,17 +151,17 @@ unfolding newlines_before newlines_back any
 tallied-none index image a = record { tells = rw (inline-none, waiting_none) (record { before = refl; back = refl; waits = refl; ended = refl; noted = refl }); few = omega arith }
 
 module _ {index image : List ℕ} {n : ℕ} (t : Table image index n) {from cut j : ℕ} {y : Tally} (K : Tallied index image from cut j y) where
-  -- the newlines are no more than there are bytes and numbers
-  pub tallied-few : j ≤ n → y.before + y.back ≤ length image + length index
-  tallied-few k = omega (arith, K.few, t.forward j n k (omega arith), t.whole, t.size)
+  -- the newlines are no more than there are bytes, and two for each element
+  pub tallied-few : j ≤ n → y.before + y.back ≤ length image + 2 * n
+  tallied-few k = omega (arith, K.few, t.forward j n k (omega arith), t.whole)
 
   module _ (k : j < n) where
     more-few : (b : Bool) → (counted b (kind_at index j) (space_in (part_at image index j)) y).before + (counted b (kind_at index j) (space_in (part_at image index j)) y).back + start_at index from ≤ start_at index (end_at index j) + 2 * end_at index j
     more-few b = omega (arith, K.few, counted-few b (kind_at index j) (space_in (part_at image index j)) y, space-few t j k, t.past j k)
 
     -- nor with the element at hand
-    pub tallied-fits : (f : ℕ) → f ≡ space_in (part_at image index j) → y.before + y.back + f + 2 ≤ length image + length index
-    tallied-fits f e = omega (arith, K.few, space-few t j k, t.inside j k, t.forward (end_at index j) n (t.inside j k) (omega arith), t.whole, t.size)
+    pub tallied-fits : (f : ℕ) → f ≡ space_in (part_at image index j) → y.before + y.back + f + 2 < 2 ^ 64
+    tallied-fits f e = omega (arith, K.few, space-few t j k, t.inside j k, t.forward (end_at index j) n (t.inside j k) (omega arith), t.whole, t.short, t.few)
 
     -- the element stands behind the cut
     pub tallied-stays : Jumps index n cut j → Tallied index image from cut (end_at index j) (counted false (kind_at index j) (space_in (part_at image index j)) y)

@@ -5,7 +5,7 @@ use Prim.Native.Nat.{ℕ, ◌+◌, ◌<◌, ◌≤◌}
 use native.Mathlib.Omega.{arith}
 use native.Mathlib.Decide.{dec_lt}
 use Rattle.tree.specs.Tree.{count_n}
-use Rattle.tree.proofs.Accepted.{accepted}
+use Rattle.tree.proofs.Passing.{accepted}
 use Rattle.tree.specs.Index.{end_at, Indexed, Table, end_in, Child}
 use Rattle.tree.proofs.Children.{child-first, child-next, end-at}
 use Rattle.children.specs.Stretch.{Jumps, here, jump, Stretch}

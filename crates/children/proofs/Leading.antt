@@ -2,26 +2,26 @@
 use mathlib.Core.Path.{◌≡◌, refl, ap, ◌∙◌, sym}
 use mathlib.Core.Bool.{Bool, true, false, cond}
 use mathlib.Core.List.{List, [], ◌∷◌, append-nil}
-use Prim.Native.Nat.{ℕ, ◌+◌, ◌-◌, ◌<◌, ◌≤◌}
+use Prim.Native.Nat.{ℕ, ◌+◌, ◌<◌, ◌≤◌, ◌^◌}
 use native.Mathlib.Omega.{arith}
-use lib.ListN.{length}
 use Rattle.tree.specs.declared.class.Kinds.{Kinds}
 use Rattle.tree.specs.Class.{is}
 use Rattle.tree.specs.Tree.{Part}
-use Rattle.children.specs.Gaps.{Go, Turn, turn, code, widen, gaps, end_by, space_in}
+use Rattle.children.specs.Gaps.{Turn, turn, widen, gaps, space_in}
 use Rattle.tree.specs.Index.{Table, Region, parts_from, part_at, kind_at, end_at}
 use Rattle.children.specs.declared.gap.End.{End}
 use Rattle.children.specs.declared.gap.Span.{Span}
+use Rattle.children.specs.declared.turn.Go.{Go}
+use Rattle.std.specs.declared.ops.ControlFlow.TheVariants.{Continue, Break}
 use Rattle.children.specs.declared.tally.Tally.{Tally}
 use Rattle.children.specs.Stretch.{Jumps, here, waiting_in}
 use Rattle.children.specs.Tally.{nothing, counted}
 use Rattle.children.specs.Spans.{Lies}
 use Rattle.children.specs.Lead.{leads, led_by, adds_error, led, Leads}
 use Rattle.tree.proofs.Siblings.{parts_next, parts-over}
-use Rattle.children.proofs.Spanning.{go_le, said, Says, Saying}
+use Rattle.children.proofs.Spanning.{said, Says}
 use Rattle.children.proofs.Growing.{waiting_none, waiting-follow, Tallied, tallied-none, tallied-few, tallied-fits, tallied-goes}
 use Rattle.tree.specs.declared.class.Class.TheVariants as Class
-use Rattle.children.specs.Gaps as G
 use Rattle.children.proofs.Stretch.{jumps-next}
 use Rattle.children.proofs.Widening.{widen_none, widen-both}
 
@@ -41,12 +41,12 @@ unfolding leads
 leads-next t w l j b k g = rw (parts_next t j b k g)
 
 adds_error_lem : (g : Go) (s : Bool) (x : Part) → Says g s x → cond (is Class.CustomError x) (x ∷ []) [] ≡ adds_error g x
-adds_error_lem G.inline s x y = rw y.error
-adds_error_lem G.last s x y = rw y.error
-adds_error_lem G.wait s x y = rw y.error
-adds_error_lem G.error s x y = rw y.error
-adds_error_lem G.skip s x y = rw y.error
-adds_error_lem G.over s x y = rw y.error
+adds_error_lem Go.Inline s x y = rw y.error
+adds_error_lem Go.Last s x y = rw y.error
+adds_error_lem Go.Wait s x y = rw y.error
+adds_error_lem Go.Error s x y = rw y.error
+adds_error_lem Go.Skip s x y = rw y.error
+adds_error_lem Go.Over s x y = rw y.error
 
 module _ {index image : List ℕ} {w : Kinds} {l : Bool} {from b j : ℕ} {t : Tally} (K : Leading index image w l from b j t) where
   abbrev tab : Table image index K.region.n
@@ -67,7 +67,7 @@ module _ {index image : List ℕ} {w : Kinds} {l : Bool} {from b j : ℕ} {t : T
     in-n : j < K.region.n
     in-n = omega (arith, K.region.ends)
 
-    step : (g : Go) → turn w l true false x ≡ G.on g → Says g true x → Leading index image w l from b (end_at index j) (counted true (kind_at index j) (space_in x) t)
+    step : (g : Go) → turn w l true false x ≡ Continue g → Says g true x → Leading index image w l from b (end_at index j) (counted true (kind_at index j) (space_in x) t)
     step g q y = record {
       region = record { n = K.region.n; table = tab; begins = tab.inside j in-n; ends = K.region.ends };
       done = jumps-next tab K.done in-n;
@@ -77,43 +77,28 @@ module _ {index image : List ℕ} {w : Kinds} {l : Bool} {from b j : ℕ} {t : T
     }
 
     -- the tally fits
-    pub leading-fits : (f : ℕ) → f ≡ space_in x → t.before + t.back + f + 2 ≤ length image + length index
+    pub leading-fits : (f : ℕ) → f ≡ space_in x → t.before + t.back + f + 2 < 2 ^ 64
     leading-fits = tallied-fits tab K.tally in-n
 
-    pub leading-more : (c next k m : ℕ) (t' : Tally) → m ≡ space_in x → c ≡ code (turn w l true false x) → c < 6 → k ≡ kind_at index j → t' ≡ counted true k m t → next ≡ end_at index j → Leading index image w l from b next t'
-    leading-more c next k m t' i e lt o u z = rw (u, o, i, z) (go (turn w l true false x) refl (said w l true false x) e)
-      where
-        go : (T : Turn) → turn w l true false x ≡ T → Saying T true x → c ≡ code T → Leading index image w l from b (end_at index j) (counted true (kind_at index j) (space_in x) t)
-        go (G.on g) q y e = step g q y
-        go G.child q y e = absurd (omega arith)
-        go G.out q y e = absurd (omega arith)
-        go G.foreign q y e = absurd (omega arith)
+    pub leading-more : (T : Turn) (g : Go) (next k m : ℕ) (t' : Tally) → m ≡ space_in x → T ≡ turn w l true false x → T ≡ Continue g → k ≡ kind_at index j → t' ≡ counted true k m t → next ≡ end_at index j → Leading index image w l from b next t'
+    leading-more T g next k m t' i d e o u z = rw (u, o, i, z) (step g (sym d ∙ e) (rw (sym d ∙ e) at (said w l true false x)))
 
-    abbrev Ended : ℕ → Type 0
-    Ended c = led image index w l b (record { from = from; cut = j; to = j; had = false; end = end_by c; tally = t }) ≡ widen [] (waiting_in image index from j j) (leads w l (parts_from image index j b))
+    ended : (e : End) → turn w l true false x ≡ Break e
+        → led image index w l b (record { from = from; cut = j; to = j; had = false; end = e; tally = t }) ≡ widen [] (waiting_in image index from j j) (leads w l (parts_from image index j b))
+    unfolding led widen
+    ended End.Child q = rw (leads-next tab w l j b K.region.ends lt, q, append-nil (waiting_in image index from j j))
+    ended End.Last q = rw (leads-next tab w l j b K.region.ends lt, q, append-nil (waiting_in image index from j j))
+    ended End.Foreign q = rw (leads-next tab w l j b K.region.ends lt, q, append-nil (waiting_in image index from j j))
 
-    ended : (c : ℕ) → c ≡ code (turn w l true false x) → 6 ≤ c → Ended c
-    unfolding led widen end_by
-    ended c e k = go (turn w l true false x) refl e
-      where
-        go : (T : Turn) → turn w l true false x ≡ T → c ≡ code T → Ended c
-        go (G.on g) q e = absurd (omega (arith, go_le g))
-        go G.child q e = rw (leads-next tab w l j b K.region.ends lt, q, e, append-nil (waiting_in image index from j j))
-        go G.out q e = rw (leads-next tab w l j b K.region.ends lt, q, e, append-nil (waiting_in image index from j j))
-        go G.foreign q e = rw (leads-next tab w l j b K.region.ends lt, q, e, append-nil (waiting_in image index from j j))
-
-    pub leading-stop : (c : ℕ) (d : End) (r : Span) → c ≡ code (turn w l true false x) → 6 ≤ c → d ≡ end_by c → r ≡ record { from = from; cut = j; to = j; had = false; end = d; tally = t } → Leads image index w l from b r
-    leading-stop c d r e k o z = rw (z, o) (record {
+    pub leading-stop : (T : Turn) (e : End) (r : Span) → T ≡ turn w l true false x → T ≡ Break e → r ≡ record { from = from; cut = j; to = j; had = false; end = e; tally = t } → Leads image index w l from b r
+    leading-stop T e r d q z = rw z (record {
       begins = refl;
       cuts = refl;
       lies = laid;
       onward = K.region;
       inside = λ q. lt;
-      read = K.rest ∙ sym (ended c e k);
+      read = K.rest ∙ sym (ended e (sym d ∙ q));
     })
-
-    pub leading-less : (next : ℕ) → next ≡ end_at index j → b - next < b - j
-    leading-less next e = omega (arith, tab.past j in-n)
 
   over : b ≤ j → led image index w l b (record { from = from; cut = j; to = j; had = false; end = End.Last; tally = t }) ≡ widen [] (waiting_in image index from j j) (leads w l (parts_from image index j b))
   unfolding led widen leads

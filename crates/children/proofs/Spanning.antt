@@ -2,17 +2,18 @@
 use mathlib.Core.Path.{◌≡◌, refl, ap, ◌∙◌, sym}
 use mathlib.Core.Bool.{Bool, true, false, cond, not, false≢true}
 use mathlib.Core.List.{List, [], ◌∷◌, ◌++◌, append-nil}
-use Prim.Native.Nat.{ℕ, ◌+◌, ◌-◌, ◌<◌, ◌≤◌}
+use Prim.Native.Nat.{ℕ, ◌+◌, ◌<◌, ◌≤◌, ◌^◌}
 use native.Mathlib.Omega.{arith}
-use lib.ListN.{length}
 use Rattle.tree.specs.declared.class.Kinds.{Kinds}
 use Rattle.tree.specs.Class.{is, one_of}
 use Rattle.tree.specs.Tree.{Part}
 use Rattle.children.specs.Reading.{is_note}
-use Rattle.children.specs.Gaps.{Go, Turn, turn, code, go_code, trivia_turn, other_turn, breaks, widen, gaps, turned, started_by, had_by, follows_by, started_after, had_after, adds_inline, adds_waiting, ending, end_by, space_in}
+use Rattle.children.specs.Gaps.{Turn, turn, trivia_turn, other_turn, breaks, widen, gaps, turned, started_after, had_after, follows, adds_inline, adds_waiting, ending, space_in}
 use Rattle.tree.specs.Index.{Table, Region, parts_from, part_at, kind_at, end_at}
 use Rattle.children.specs.declared.gap.End.{End}
 use Rattle.children.specs.declared.gap.Span.{Span}
+use Rattle.children.specs.declared.turn.Go.{Go}
+use Rattle.std.specs.declared.ops.ControlFlow.TheVariants.{Continue, Break}
 use Rattle.children.specs.declared.tally.Tally.{Tally}
 use Rattle.children.specs.Stretch.{Jumps, here, inline_in, waiting_in}
 use Rattle.children.specs.Tally.{nothing, counted}
@@ -25,71 +26,61 @@ use Rattle.children.proofs.Tallies.{not_error}
 use Rattle.children.proofs.Growing.{inline-none, waiting_none, inline-more, waiting-follow, waiting-more, Tallied, tallied-none, tallied-few, tallied-fits, tallied-stays, tallied-goes}
 use Rattle.children.proofs.Widening.{widen_none, widen-both}
 
-pub go_le : (g : Go) → go_code g ≤ 5
-go_le G.inline = omega arith
-go_le G.last = omega arith
-go_le G.wait = omega arith
-go_le G.error = omega arith
-go_le G.skip = omega arith
-go_le G.over = omega arith
-
 -- ---- what a turn says of the element
 
 abbrev pub is_trivia : Go → Bool
-is_trivia G.inline = true
-is_trivia G.last = true
-is_trivia G.wait = true
-is_trivia G.error = false
-is_trivia G.skip = false
-is_trivia G.over = false
+is_trivia Go.Inline = true
+is_trivia Go.Last = true
+is_trivia Go.Wait = true
+is_trivia Go.Error = false
+is_trivia Go.Skip = false
+is_trivia Go.Over = false
 
 abbrev pub is_error : Go → Bool
-is_error G.inline = false
-is_error G.last = false
-is_error G.wait = false
-is_error G.error = true
-is_error G.skip = false
-is_error G.over = false
+is_error Go.Inline = false
+is_error Go.Last = false
+is_error Go.Wait = false
+is_error Go.Error = true
+is_error Go.Skip = false
+is_error Go.Over = false
 
 pub record Says (g : Go) (s : Bool) (x : Part) : Type 0 where
   pub trivia : is Class.Trivia x ≡ is_trivia g
   pub error : is Class.CustomError x ≡ is_error g
-  pub fresh : go_code g ≤ 1 → s ≡ false
+  pub fresh : follows g true ≡ true → s ≡ false
 
 abbrev pub Saying : Turn → Bool → Part → Type 0
-Saying (G.on g) s x = Says g s x
-Saying G.child s x = Unit {0}
-Saying G.out s x = Unit {0}
-Saying G.foreign s x = Unit {0}
+Saying (Continue g) s x = Says g s x
+Saying (Break e) s x = Unit {0}
 
 said-trivia : (s : Bool) (x : Part) → is Class.Trivia x ≡ true → Saying (trivia_turn s x) s x
 unfolding trivia_turn
-said-trivia true x e = record { trivia = e; error = not_error x e; fresh = λ h. absurd (omega arith) }
+said-trivia true x e = record { trivia = e; error = not_error x e; fresh = λ h. absurd (false≢true h) }
 said-trivia false x e = go (breaks x) (is Class.SingleLine x)
   where
-    go : (b l : Bool) → Saying (cond b (G.on G.wait) (cond l (G.on G.last) (G.on G.inline))) false x
-    go true l = record { trivia = e; error = not_error x e; fresh = λ h. absurd (omega arith) }
+    go : (b l : Bool) → Saying (cond b (Continue Go.Wait) (cond l (Continue Go.Last) (Continue Go.Inline))) false x
+    go true l = record { trivia = e; error = not_error x e; fresh = λ h. absurd (false≢true h) }
     go false true = record { trivia = e; error = not_error x e; fresh = λ h. refl }
     go false false = record { trivia = e; error = not_error x e; fresh = λ h. refl }
 
 said-other : (l h s : Bool) (x : Part) → is Class.Trivia x ≡ false → is Class.CustomError x ≡ false → Saying (other_turn l h x.kind) s x
 unfolding other_turn
 said-other true true s x e f = tt
-said-other true false s x e f = record { trivia = e; error = f; fresh = λ h. absurd (omega arith) }
+said-other true false s x e f = record { trivia = e; error = f; fresh = λ h. absurd (false≢true h) }
 said-other false h s x e f = go (is Class.Separator x)
   where
-    go : (b : Bool) → Saying (cond b (G.on G.skip) G.foreign) s x
-    go true = record { trivia = e; error = f; fresh = λ h. absurd (omega arith) }
+    go : (b : Bool) → Saying (cond b (Continue Go.Skip) (Break End.Foreign)) s x
+    go true = record { trivia = e; error = f; fresh = λ h. absurd (false≢true h) }
     go false = tt
 
 pub said : (w : Kinds) (l s h : Bool) (x : Part) → Saying (turn w l s h x) s x
 unfolding turn
 said w l s h x = go (one_of w x.kind) (is Class.Trivia x) refl (is Class.CustomError x) refl
   where
-    go : (a b : Bool) → is Class.Trivia x ≡ b → (d : Bool) → is Class.CustomError x ≡ d → Saying (cond a G.child (cond b (trivia_turn s x) (cond d (G.on G.error) (other_turn l h x.kind)))) s x
+    go : (a b : Bool) → is Class.Trivia x ≡ b → (d : Bool) → is Class.CustomError x ≡ d → Saying (cond a (Break End.Child) (cond b (trivia_turn s x) (cond d (Continue Go.Error) (other_turn l h x.kind)))) s x
     go true b e d f = tt
     go false true e d f = said-trivia s x e
-    go false false e true f = record { trivia = e; error = f; fresh = λ h. absurd (omega arith) }
+    go false false e true f = record { trivia = e; error = f; fresh = λ h. absurd (false≢true h) }
     go false false e false f = said-other l h s x e f
 
 gaps-next : {index image : List ℕ} {n : ℕ} (t : Table image index n) (w : Kinds) (l s h : Bool) (j b : ℕ) → b ≤ n → j < b
@@ -130,7 +121,7 @@ module _ {index image : List ℕ} {w : Kinds} {l a : Bool} {from b cut j : ℕ} 
   in-n : j < K.region.n
   in-n = omega (arith, K.region.ends)
 
-  step-rest : (g : Go) → turn w l s h x ≡ G.on g → gaps w l (not a) a (parts_from image index from b)
+  step-rest : (g : Go) → turn w l s h x ≡ Continue g → gaps w l (not a) a (parts_from image index from b)
       ≡ widen (inline_in image index from cut ++ adds_inline g x) (waiting_in image index from cut j ++ adds_waiting g x) (gaps w l (started_after g s) (had_after g h) (parts_from image index (end_at index j) b))
   step-rest g q = K.rest ∙ ap (widen (inline_in image index from cut) (waiting_in image index from cut j)) (rw q at (gaps-next tab w l s h j b K.region.ends lt)) ∙ widen-both _ _ _ _ _
 
@@ -138,7 +129,7 @@ module _ {index image : List ℕ} {w : Kinds} {l a : Bool} {from b cut j : ℕ} 
   next-region = record { n = K.region.n; table = tab; begins = tab.inside j in-n; ends = K.region.ends }
 
   -- the cut stays where it is
-  stays : (g : Go) → turn w l s h x ≡ G.on g → adds_inline g x ≡ [] → cond (is_note x) (x ∷ []) [] ≡ adds_waiting g x → (started_after g s ≡ false → ⊥)
+  stays : (g : Go) → turn w l s h x ≡ Continue g → adds_inline g x ≡ [] → cond (is_note x) (x ∷ []) [] ≡ adds_waiting g x → (started_after g s ≡ false → ⊥)
       → Spanning index image w l a from b cut (end_at index j) (started_after g s) (had_after g h) (counted false (kind_at index j) (space_in x) t)
   stays g q u v f = record {
     region = next-region;
@@ -150,7 +141,7 @@ module _ {index image : List ℕ} {w : Kinds} {l a : Bool} {from b cut j : ℕ} 
   }
 
   -- the cut goes on with the element
-  goes : (g : Go) → turn w l s h x ≡ G.on g → s ≡ false → cond (is Class.Trivia x) (x ∷ []) [] ≡ adds_inline g x → cond (is Class.CustomError x) (x ∷ []) [] ≡ adds_waiting g x
+  goes : (g : Go) → turn w l s h x ≡ Continue g → s ≡ false → cond (is Class.Trivia x) (x ∷ []) [] ≡ adds_inline g x → cond (is Class.CustomError x) (x ∷ []) [] ≡ adds_waiting g x
       → Spanning index image w l a from b (end_at index j) (end_at index j) (started_after g s) (had_after g h) (counted true (kind_at index j) (space_in x) t)
   goes g q z u v =
       let e : cut ≡ j = K.follows z in
@@ -164,57 +155,45 @@ module _ {index image : List ℕ} {w : Kinds} {l a : Bool} {from b cut j : ℕ} 
         rest = rw (inline-more tab from j in-n p, waiting-follow tab from j in-n p, u, v) (rw e at (step-rest g q));
       }
 
-  abbrev Stepped : ℕ → Type 0
-  Stepped c = Spanning index image w l a from b (cond (follows_by c s) (end_at index j) cut) (end_at index j) (started_by c s) (had_by c h) (counted (follows_by c s) (kind_at index j) (space_in x) t)
+  abbrev Stepped : Go → Type 0
+  Stepped g = Spanning index image w l a from b (cond (follows g s) (end_at index j) cut) (end_at index j) (started_after g s) (had_after g h) (counted (follows g s) (kind_at index j) (space_in x) t)
 
-  step : (g : Go) → turn w l s h x ≡ G.on g → Says g s x → (v : Bool) → s ≡ v → Stepped (go_code g)
-  unfolding follows_by started_by had_by
-  step G.inline q y v e = goes G.inline q (y.fresh (omega arith)) (rw y.trivia) (rw y.error)
-  step G.last q y v e = goes G.last q (y.fresh (omega arith)) (rw y.trivia) (rw y.error)
-  step G.wait q y v e = stays G.wait q refl (rw y.trivia) (λ z. false≢true (sym z))
-  step G.error q y true e = rw e (rw e at (stays G.error q refl (rw (y.trivia, y.error)) (λ z. false≢true (sym z ∙ e))))
-  step G.error q y false e = rw e (rw e at (goes G.error q e (rw y.trivia) (rw y.error)))
-  step G.skip q y true e = rw e (rw e at (stays G.skip q refl (rw (y.trivia, y.error)) (λ z. false≢true (sym z ∙ e))))
-  step G.skip q y false e = rw e (rw e at (goes G.skip q e (rw y.trivia) (rw y.error)))
-  step G.over q y v e = stays G.over q refl (rw (y.trivia, y.error)) (λ z. false≢true (sym z))
+  step : (g : Go) → turn w l s h x ≡ Continue g → Says g s x → (v : Bool) → s ≡ v → Stepped g
+  step Go.Inline q y v e = goes Go.Inline q (y.fresh refl) (rw y.trivia) (rw y.error)
+  step Go.Last q y v e = goes Go.Last q (y.fresh refl) (rw y.trivia) (rw y.error)
+  step Go.Wait q y v e = stays Go.Wait q refl (rw y.trivia) (λ z. false≢true (sym z))
+  step Go.Error q y true e = rw e (rw e at (stays Go.Error q refl (rw (y.trivia, y.error)) (λ z. false≢true (sym z ∙ e))))
+  step Go.Error q y false e = rw e (rw e at (goes Go.Error q e (rw y.trivia) (rw y.error)))
+  step Go.Skip q y true e = rw e (rw e at (stays Go.Skip q refl (rw (y.trivia, y.error)) (λ z. false≢true (sym z ∙ e))))
+  step Go.Skip q y false e = rw e (rw e at (goes Go.Skip q e (rw y.trivia) (rw y.error)))
+  step Go.Over q y v e = stays Go.Over q refl (rw (y.trivia, y.error)) (λ z. false≢true (sym z))
 
-  stepped : (c : ℕ) → c ≡ code (turn w l s h x) → c < 6 → Stepped c
-  stepped c e k = go (turn w l s h x) refl (said w l s h x) e
-    where
-      go : (T : Turn) → turn w l s h x ≡ T → Saying T s x → c ≡ code T → Stepped c
-      go (G.on g) q y e = rw e (step g q y s refl)
-      go G.child q y e = absurd (omega arith)
-      go G.out q y e = absurd (omega arith)
-      go G.foreign q y e = absurd (omega arith)
+  stepped : (g : Go) → turn w l s h x ≡ Continue g → Stepped g
+  stepped g e = step g e (rw e at (said w l s h x)) s refl
 
   -- the tally fits
-  pub spanning-fits : (f : ℕ) → f ≡ space_in x → t.before + t.back + f + 2 ≤ length image + length index
+  pub spanning-fits : (f : ℕ) → f ≡ space_in x → t.before + t.back + f + 2 < 2 ^ 64
   spanning-fits = tallied-fits tab K.tally in-n
 
-  pub spanning-more : (c next cut' k m : ℕ) (f s' h' : Bool) (t' : Tally) → m ≡ space_in x → c ≡ code (turn w l s h x) → c < 6 → next ≡ end_at index j → f ≡ follows_by c s → cut' ≡ cond f next cut → h' ≡ had_by c h → s' ≡ started_by c s
+  pub spanning-more : (T : Turn) (g : Go) (next cut' k m : ℕ) (f s' h' : Bool) (t' : Tally) → m ≡ space_in x → T ≡ turn w l s h x → T ≡ Continue g → next ≡ end_at index j → f ≡ follows g s → cut' ≡ cond f next cut → h' ≡ had_after g h → s' ≡ started_after g s
       → k ≡ kind_at index j → t' ≡ counted f k m t → Spanning index image w l a from b cut' next s' h' t'
-  spanning-more c next cut' k m f s' h' t' i e lt n p q u v o z = rw (z, o, i, q, p, n, u, v) (stepped c e lt)
+  spanning-more T g next cut' k m f s' h' t' i d e n p q u v o z = rw (z, o, i, q, p, n, u, v) (stepped g (sym d ∙ e))
 
-  abbrev Ended : ℕ → Type 0
-  Ended c = spanned image index w l b (record { from = from; cut = cut; to = j; had = h; end = end_by c; tally = t }) ≡ widen (inline_in image index from cut) (waiting_in image index from cut j) (gaps w l s h (parts_from image index j b))
+  -- an element ends it
+  ended : (e : End) → turn w l s h x ≡ Break e
+      → spanned image index w l b (record { from = from; cut = cut; to = j; had = h; end = e; tally = t }) ≡ widen (inline_in image index from cut) (waiting_in image index from cut j) (gaps w l s h (parts_from image index j b))
+  unfolding spanned widen
+  ended End.Child q = rw (gaps-next tab w l s h j b K.region.ends lt, q, append-nil (inline_in image index from cut), append-nil (waiting_in image index from cut j))
+  ended End.Last q = rw (gaps-next tab w l s h j b K.region.ends lt, q, append-nil (inline_in image index from cut), append-nil (waiting_in image index from cut j))
+  ended End.Foreign q = rw (gaps-next tab w l s h j b K.region.ends lt, q, append-nil (inline_in image index from cut), append-nil (waiting_in image index from cut j))
 
-  ended : (c : ℕ) → c ≡ code (turn w l s h x) → 6 ≤ c → Ended c
-  unfolding spanned widen end_by
-  ended c e k = go (turn w l s h x) refl (said w l s h x) e
-    where
-      go : (T : Turn) → turn w l s h x ≡ T → Saying T s x → c ≡ code T → Ended c
-      go (G.on g) q y e = absurd (omega (arith, go_le g))
-      go G.child q y e = rw (gaps-next tab w l s h j b K.region.ends lt, q, e, append-nil (inline_in image index from cut), append-nil (waiting_in image index from cut j))
-      go G.out q y e = rw (gaps-next tab w l s h j b K.region.ends lt, q, e, append-nil (inline_in image index from cut), append-nil (waiting_in image index from cut j))
-      go G.foreign q y e = rw (gaps-next tab w l s h j b K.region.ends lt, q, e, append-nil (inline_in image index from cut), append-nil (waiting_in image index from cut j))
-
-  pub spanning-stop : (c : ℕ) (d : End) (r : Span) → c ≡ code (turn w l s h x) → 6 ≤ c → d ≡ end_by c → r ≡ record { from = from; cut = cut; to = j; had = h; end = d; tally = t } → Spans image index w l a from b r
-  spanning-stop c d r e k o z = rw (z, o) (record {
+  pub spanning-stop : (T : Turn) (e : End) (r : Span) → T ≡ turn w l s h x → T ≡ Break e → r ≡ record { from = from; cut = cut; to = j; had = h; end = e; tally = t } → Spans image index w l a from b r
+  spanning-stop T e r d q z = rw z (record {
     begins = refl;
     lies = laid K;
     onward = K.region;
     inside = λ q. lt;
-    read = K.rest ∙ sym (ended c e k);
+    read = K.rest ∙ sym (ended e (sym d ∙ q));
   })
 
 gaps-none : (w : Kinds) (l s h : Bool) (index image : List ℕ) (j b : ℕ) → b ≤ j → gaps w l s h (parts_from image index j b) ≡ ending (G.gap_of [] [] h)
@@ -235,6 +214,3 @@ spanning_all {index} {image} {w} {l} {a} {from} {b} {cut} {j} {s} {h} {t} r K k 
   inside = λ q. let z : ◌≡◌ {A = ℕ} 0 1 = cc in absurd (omega arith);
   read = K.rest ∙ sym (over index image w l from b cut j s h t k);
 })
-
-pub spanning_less : {index image : List ℕ} {w : Kinds} {l a : Bool} {from b cut j : ℕ} {s h : Bool} {t : Tally} (next : ℕ) → Spanning index image w l a from b cut j s h t → j < b → next ≡ end_at index j → b - next < b - j
-spanning_less {index} {image} {w} {l} {a} {from} {b} {cut} {j} next K k e = omega (arith, K.region.table.past j (omega (arith, K.region.ends)))

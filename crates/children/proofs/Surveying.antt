@@ -1,8 +1,8 @@
 -- The loop of `survey_from`, whole readings, and what a gap's tally says.
 use mathlib.Core.Path.{◌≡◌, refl, ap, ◌∙◌, sym}
-use mathlib.Core.Bool.{Bool, true, false, not, ◌&&◌, ◌||◌}
+use mathlib.Core.Bool.{Bool, true, false, not, ◌||◌}
 use mathlib.Core.List.{List}
-use Prim.Native.Nat.{ℕ, suc, ◌+◌, ◌-◌, ◌<◌, ◌≤◌}
+use Prim.Native.Nat.{ℕ, suc, ◌+◌, ◌-◌, ◌<◌}
 use native.Mathlib.Omega.{arith}
 use native.Mathlib.Numerals.{add-one}
 use native.Mathlib.Nat.{add-zero}
@@ -20,7 +20,7 @@ use Rattle.children.specs.Gaps.{bare, gaps, newlines_at, last_gap, is_child, is_
 use Rattle.children.specs.Reading.{newlines_before, newlines_back}
 use Rattle.children.specs.Whole.{sums_of}
 use Rattle.children.specs.Lead.{Leads, led, child_after, reading_after, last_after, SurveyedAfter}
-use Rattle.children.specs.Spans.{Lies, Spans, spanned, gap_at, Surveying, Outlines, SurveyedFrom, Surveyed, surveyed}
+use Rattle.children.specs.Spans.{Spans, spanned, gap_at, Surveying, Outlines, SurveyedFrom, surveyed}
 use Rattle.children.proofs.Whole.{first-sums}
 use Rattle.children.proofs.Uses.{child_is, child_not, foreign_is, last_is}
 use Rattle.children.proofs.Stretch.{jumps-le}
@@ -31,9 +31,6 @@ pub record Outlining (index image : List ℕ) (w : Kinds) (loose : Bool) (b : �
   pub lines : n ≡ newlines_at (gap_at image index s)
   pub rest : gap_sums k₀ m₀ (spanned image index w loose b s₀) ≡ gap_sums k m (spanned image index w loose b s)
   pub last : last_gap (spanned image index w loose b s₀) ≡ last_gap (spanned image index w loose b s)
-
-pub outlining_none : (index image : List ℕ) (w : Kinds) (l : Bool) (b : ℕ) (s : Span) (k : ℕ) (m : Bool) (n : ℕ) → Surveying image index b s k → n ≡ newlines_at (gap_at image index s) → Outlining index image w l b s k m s k m n
-outlining_none index image w l b s k m n h e = record { at = h; lines = e; rest = refl; last = refl }
 
 module _ {index image : List ℕ} {w : Kinds} {l : Bool} {b : ℕ} {s₀ : Span} {k₀ : ℕ} {m₀ : Bool} {s : Span} {k : ℕ} {m : Bool} {n : ℕ} (K : Outlining index image w l b s₀ k₀ m₀ s k m n) where
   at-child : s.end ≡ End.Child → gap_sums k m (spanned image index w l b s) ≡ gap_sums (suc k) (m || leb 1 n) (gaps w l false true (parts_from image index (end_at index s.to) b))
@@ -83,12 +80,6 @@ module _ {index image : List ℕ} {w : Kinds} {l : Bool} {b : ℕ} {s₀ : Span}
     child : s.end ≡ End.Child
     child = child_is s.end i p
 
-    pub outlining-region : (next : ℕ) → next ≡ end_at index s.to → Region image index next b
-    outlining-region next q = rw q (region-next K.at.onward (K.at.inside child))
-
-    pub outlining-fits : k + 1 ≤ b
-    outlining-fits = omega (arith, K.at.few, K.at.inside child)
-
     module _ (next : ℕ) (q : next ≡ end_at index s.to) (s' : Span) (h : Spans image index w l true next b s') where
       behind : s.to < s'.to
       behind = omega (arith, region-past K.at.onward (K.at.inside child), q, h.begins, jumps-le h.lies.first.table h.lies.first.jumps, jumps-le h.lies.second.table h.lies.second.jumps)
@@ -103,15 +94,6 @@ module _ {index image : List ℕ} {w : Kinds} {l : Bool} {b : ℕ} {s₀ : Span}
         rest = K.rest ∙ at-child child ∙ rw (add-one k) (ap (gap_sums (suc k) (m || leb 1 n)) (rw q at h.read));
         last = K.last ∙ last-child child ∙ ap last_gap (rw q at h.read);
       }
-
--- ---- the whole of a reading
-
-module _ {index image : List ℕ} {w : Kinds} {l : Bool} {from b : ℕ} {s : Span} (h : Spans image index w l false from b s) where
-  pub survey-start : Surveying image index b s 0
-  survey-start = record { lies = h.lies; onward = h.onward; inside = h.inside; few = omega arith }
-
-  pub survey-whole : {r : Outline} → SurveyedFrom image index w l b s 0 false r → Surveyed image index w l from b r
-  survey-whole k = record { outlines = rw h.read k.outlines; last = rw h.read k.last }
 
 -- ---- the whole of a reading with a trailing list
 
@@ -180,15 +162,3 @@ module _ {index image : List ℕ} {w : Kinds} {l : Bool} {from b : ℕ} {s : Spa
         after-whole {m} i d v =
             let r : gaps w l false true (parts_from image index (end_at index s.to) b) ≡ spanned image index w l b g = rw n at k.read in
             by-lead (rw (taken i d ∙ ap (gap_sums 1 (leb 1 m)) r) v.outlines) (ap bare (v.last ∙ sym (last_taken i ∙ ap last_gap r)))
-
--- ---- what a gap's tally says
-
-pub blank_is : (h : Bool) {n m : ℕ} → n ≡ m → (h && leb 2 n) ≡ (h && leb 2 m)
-blank_is h e = rw e
-
-pub not_waits : {index image : List ℕ} {s : Span} → Lies image index s → not s.tally.waits ≡ is_nil (gap_at image index s).waiting
-not_waits h = rw h.tells.waits (go _)
-  where
-    go : (b : Bool) → not (not b) ≡ b
-    go true = refl
-    go false = refl

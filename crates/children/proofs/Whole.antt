@@ -11,6 +11,9 @@ use Rattle.tree.specs.declared.class.Kinds.{Kinds}
 use Rattle.tree.specs.Class.{is, kinds, one_of}
 use Rattle.text.specs.Basic.{any}
 use Rattle.tree.specs.Tree.{Part}
+use Rattle.std.specs.declared.ops.ControlFlow.TheVariants.{Continue, Break}
+use Rattle.children.specs.declared.gap.End.TheVariants as End
+use Rattle.children.specs.declared.turn.Go.TheVariants as Go
 use Rattle.children.specs.Reading.{Child, Reading, foreign, read, pass, start, any_many_lines}
 use Rattle.children.specs.Gaps.{Gaps, stopped, ending, widen, gaps, turn, trivia_turn, other_turn, newlines_at, Sums, foreign_at, sums, gap_sums}
 use Rattle.children.proofs.Glue.{glued, passing, start-gaps}
@@ -34,7 +37,7 @@ turn-bare : (w : Kinds) (l h : Bool) (x : Part) (go : Bool → Bool → Gaps) �
 unfolding turn trivia_turn other_turn
 turn-bare w l h x go f = pick (one_of w x.kind) (is Class.Trivia x) (is Class.CustomError x) (is Class.Separator x) l h
   where
-    pick : (a b d e l h : Bool) → first_inline (G.turned (cond a G.child (cond b (G.on G.wait) (cond d (G.on G.error) (cond l (cond h G.out (G.on G.over)) (cond e (G.on G.skip) G.foreign))))) x true h go) ≡ []
+    pick : (a b d e l h : Bool) → first_inline (G.turned (cond a (Break End.Child) (cond b (Continue Go.Wait) (cond d (Continue Go.Error) (cond l (cond h (Break End.Last) (Continue Go.Over)) (cond e (Continue Go.Skip) (Break End.Foreign)))))) x true h go) ≡ []
     pick true b d e l h = refl
     pick false true d e l h = widen-bare (x ∷ []) (go true true) (f true)
     pick false false true e l h = widen-bare (x ∷ []) (go true h) (f h)

@@ -2,7 +2,7 @@
 use Rattle.std.specs.Prelude.{◌≡◌, Bool, true, cond, ◌||◌, List, [], ◌∷◌, ℕ, ◌≤◌, eqb, ltb}
 use Rattle.std.proofs.Math.Option.{Option, none, some}
 use Rattle.text.specs.Basic.{any}
-use Rattle.text.specs.Lent.{Lent}
+use Rattle.tree.specs.Source.{LentTree}
 use Rattle.tree.specs.Tree.{Part}
 use Rattle.tree.specs.declared.class.Class.{Class}
 use Rattle.tree.specs.Class.{one_of, of_kind, number_of, all_of}
@@ -71,17 +71,17 @@ before_to index none a xs = leading_to index a xs
 before_to index (some e) a xs = e
 
 -- r is what f gives of a part x with number e, if any, and the siblings from a on that begin before b
-abbrev pub BesideIn : (Option Part → List Part → Around) → Lent → Lent → Option ℕ → ℕ → ℕ → ℕ → ℕ → Notes → Type 0
-BesideIn f image index e a b from to r =
-    (x : Option Part) → number_of x ≡ e → Beside image.entry.now index.entry.now (f x (parts_from image.entry.now index.entry.now a b)) from to r
+abbrev pub BesideIn : (Option Part → List Part → Around) → LentTree → Option ℕ → ℕ → ℕ → ℕ → ℕ → Notes → Type 0
+BesideIn f tree e a b from to r =
+    (x : Option Part) → number_of x ≡ e → Beside tree.entry.now.image tree.entry.now.index (f x (parts_from tree.entry.now.image tree.entry.now.index a b)) from to r
 
 -- what stands before that part, from a on
-abbrev pub BeforeIn : Lent → Lent → Option ℕ → ℕ → ℕ → Notes → Type 0
-BeforeIn image index e a b r = BesideIn trivia_before image index e a b a (before_to index.entry.now e a (parts_from image.entry.now index.entry.now a b)) r
+abbrev pub BeforeIn : LentTree → Option ℕ → ℕ → ℕ → Notes → Type 0
+BeforeIn tree e a b r = BesideIn trivia_before tree e a b a (before_to tree.entry.now.index e a (parts_from tree.entry.now.image tree.entry.now.index a b)) r
 
 -- what stands behind it, up to b
-abbrev pub AfterIn : Lent → Lent → Option ℕ → ℕ → ℕ → Notes → Type 0
-AfterIn image index e a b r = BesideIn trivia_after image index e a b (from_at index.entry.now e b) b r
+abbrev pub AfterIn : LentTree → Option ℕ → ℕ → ℕ → Notes → Type 0
+AfterIn tree e a b r = BesideIn trivia_after tree e a b (from_at tree.entry.now.index e b) b r
 
 -- trivia, a custom error or a separator: what a strict reading takes or skips
 unfoldable pub is_kept : ℕ → Bool

@@ -4,35 +4,16 @@ use Rattle.text.specs.Basic.{count}
 use Rattle.tree.specs.Tree.{Part}
 use Rattle.tree.specs.declared.class.Kinds.{Kinds}
 use Rattle.tree.specs.Class.{is, one_of, of_kind}
+use Rattle.std.specs.declared.ops.ControlFlow.{ControlFlow}
+use Rattle.std.specs.declared.ops.ControlFlow.TheVariants.{Continue, Break}
 use Rattle.children.specs.declared.gap.End.{End}
+use Rattle.children.specs.declared.turn.Go.{Go}
 use Rattle.children.specs.Reading.{newlines_before, newlines_back}
 use Rattle.tree.specs.declared.class.Class.TheVariants as Class
 
--- An element with which a gap goes on: inline trivia; inline trivia that ends the line; trivia that waits; a custom error;
--- a separator; a foreign element that a loose reading passes over.
-pub data Go : Type 0 where
-  inline last wait error skip over : Go
-
--- What one element does to a gap: it goes on, or stops at a child, at the end of a loose reading, at a foreign element.
-pub data Turn : Type 0 where
-  on : Go → Turn
-  child out foreign : Turn
-
--- their numbers in the code
-abbrev pub go_code : Go → ℕ
-go_code inline = 0
-go_code last = 1
-go_code wait = 2
-go_code error = 3
-go_code skip = 4
-go_code over = 5
-
--- the number of a turn in the code: 6 and above stop
-abbrev pub code : Turn → ℕ
-code (on t) = go_code t
-code child = 6
-code out = 7
-code foreign = 8
+-- What one element does to a gap: the gap goes on, or ends at a child, at the end of a loose reading, at a foreign element.
+abbrev pub Turn : Type 0
+Turn = ControlFlow End Go
 
 -- trivia that holds a newline and is no single-line comment
 abbrev pub breaks : Part → Bool
@@ -40,18 +21,18 @@ breaks x = leb 1 (count 10 x.text) && not (is Class.SingleLine x)
 
 -- trivia: 'inline until a trivia holding a newline that is no single-line comment (that one waits too) or until just after a single-line comment'
 unfoldable pub trivia_turn : Bool → Part → Turn
-trivia_turn started x = cond (started || breaks x) (on wait) (cond (is Class.SingleLine x) (on last) (on inline))
+trivia_turn started x = cond (started || breaks x) (Continue Go.Wait) (cond (is Class.SingleLine x) (Continue Go.Last) (Continue Go.Inline))
 
 -- any other element: a loose reading 'ends if a child or trivia came before, else goes on'; 'A strict reading skips only `,` and `;`'
 unfoldable pub other_turn : Bool → Bool → ℕ → Turn
-other_turn loose had k = cond loose (cond had out (on over)) (cond (of_kind Class.Separator k) (on skip) foreign)
+other_turn loose had k = cond loose (cond had (Break End.Last) (Continue Go.Over)) (cond (of_kind Class.Separator k) (Continue Go.Skip) (Break End.Foreign))
 
 -- what an element does, by its class
 unfoldable pub turn : Kinds → Bool → Bool → Bool → Part → Turn
 turn wanted loose started had x =
-    cond (one_of wanted x.kind) child
+    cond (one_of wanted x.kind) (Break End.Child)
     (cond (is Class.Trivia x) (trivia_turn started x)
-    (cond (is Class.CustomError x) (on error)
+    (cond (is Class.CustomError x) (Continue Go.Error)
     (other_turn loose had x.kind)))
 
 -- A gap: inline trivia of the child before it, what waits for the child behind it, and whether a child or trivia came so far.
@@ -90,46 +71,50 @@ widen is ws (child g x gs) = child (widened is ws g) x gs
 
 -- all is to wait from here on
 abbrev pub started_after : Go → Bool → Bool
-started_after inline s = s
-started_after last s = true
-started_after wait s = true
-started_after error s = s
-started_after skip s = s
-started_after over s = true
+started_after Go.Inline s = s
+started_after Go.Last s = true
+started_after Go.Wait s = true
+started_after Go.Error s = s
+started_after Go.Skip s = s
+started_after Go.Over s = true
 
 -- a child or trivia came
 abbrev pub had_after : Go → Bool → Bool
-had_after inline h = true
-had_after last h = true
-had_after wait h = true
-had_after error h = h
-had_after skip h = h
-had_after over h = h
+had_after Go.Inline h = true
+had_after Go.Last h = true
+had_after Go.Wait h = true
+had_after Go.Error h = h
+had_after Go.Skip h = h
+had_after Go.Over h = h
 
 -- what an element adds to the gap's inline trivia
 abbrev pub adds_inline : Go → Part → List Part
-adds_inline inline x = x ∷ []
-adds_inline last x = x ∷ []
-adds_inline wait x = []
-adds_inline error x = []
-adds_inline skip x = []
-adds_inline over x = []
+adds_inline Go.Inline x = x ∷ []
+adds_inline Go.Last x = x ∷ []
+adds_inline Go.Wait x = []
+adds_inline Go.Error x = []
+adds_inline Go.Skip x = []
+adds_inline Go.Over x = []
 
 -- what an element adds to what waits
 abbrev pub adds_waiting : Go → Part → List Part
-adds_waiting inline x = []
-adds_waiting last x = []
-adds_waiting wait x = x ∷ []
-adds_waiting error x = x ∷ []
-adds_waiting skip x = []
-adds_waiting over x = []
+adds_waiting Go.Inline x = []
+adds_waiting Go.Last x = []
+adds_waiting Go.Wait x = x ∷ []
+adds_waiting Go.Error x = x ∷ []
+adds_waiting Go.Skip x = []
+adds_waiting Go.Over x = []
+
+-- the gaps from g on, by what ends it: the child x, with the gaps behind it; the end of the reading; the foreign element x
+abbrev pub ended_by : End → Gap → Part → Gaps → Gaps
+ended_by End.Child g x gs = child g x gs
+ended_by End.Last g x gs = ending g
+ended_by End.Foreign g x gs = stopped g x.number
 
 -- one element, and the gaps that follow from a state
 abbrev pub turned : Turn → Part → Bool → Bool → (Bool → Bool → Gaps) → Gaps
-turned (on t) x s h go = widen (adds_inline t x) (adds_waiting t x) (go (started_after t s) (had_after t h))
-turned child x s h go = child (gap_of [] [] h) x (go false true)
-turned out x s h go = ending (gap_of [] [] h)
-turned foreign x s h go = stopped (gap_of [] [] h) x.number
+turned (Continue t) x s h go = widen (adds_inline t x) (adds_waiting t x) (go (started_after t s) (had_after t h))
+turned (Break e) x s h go = ended_by e (gap_of [] [] h) x (go false true)
 
 -- the gaps of a reading; `started`: trivia waits already; `had`: a child or trivia came before
 unfoldable pub gaps : Kinds → Bool → Bool → Bool → List Part → Gaps
@@ -142,21 +127,14 @@ last_gap (stopped g n) = g
 last_gap (ending g) = g
 last_gap (child g x gs) = last_gap gs
 
--- the same of a turn's number, as the code has it
-unfoldable pub started_by : ℕ → Bool → Bool
-started_by t s = ((eqb t 1 || eqb t 2) || eqb t 5) || s
-
--- a child or trivia came, by the number
-unfoldable pub had_by : ℕ → Bool → Bool
-had_by t h = leb t 2 || h
-
 -- the cut goes on with the element: inline trivia, and all but waiting trivia while nothing waits
-unfoldable pub follows_by : ℕ → Bool → Bool
-follows_by t s = leb t 1 || ((not (eqb t 2) && not (eqb t 5)) && not s)
-
--- what ends the gap, by a number that stops it
-unfoldable pub end_by : ℕ → End
-end_by t = cond (eqb t 6) End.Child (cond (eqb t 7) End.Last End.Foreign)
+abbrev pub follows : Go → Bool → Bool
+follows Go.Inline s = true
+follows Go.Last s = true
+follows Go.Wait s = false
+follows Go.Error s = not s
+follows Go.Skip s = not s
+follows Go.Over s = false
 
 -- a child ends it
 abbrev pub is_child : End → Bool
@@ -169,12 +147,6 @@ abbrev pub is_foreign : End → Bool
 is_foreign End.Child = false
 is_foreign End.Last = false
 is_foreign End.Foreign = true
-
--- the gaps from g on, by what ends it: the child x, with the gaps behind it; the end of the reading; the foreign element x
-abbrev pub ended_by : End → Gap → Part → Gaps → Gaps
-ended_by End.Child g x gs = child g x gs
-ended_by End.Last g x gs = ending g
-ended_by End.Foreign g x gs = stopped g x.number
 
 -- the line feeds of whitespace, 0 of another element
 unfoldable pub space_in : Part → ℕ

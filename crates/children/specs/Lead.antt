@@ -4,31 +4,30 @@ use Rattle.std.proofs.Math.Option.{none}
 use Rattle.tree.specs.declared.class.Kinds.{Kinds}
 use Rattle.children.specs.declared.gap.End.TheVariants as End
 use Rattle.children.specs.declared.gap.Span.{Span}
+use Rattle.children.specs.declared.turn.Go.{Go}
+use Rattle.std.specs.declared.ops.ControlFlow.TheVariants.{Continue, Break}
 use Rattle.children.specs.declared.survey.Outline.{Outline}
 use Rattle.text.specs.Basic.{is_nil}
 use Rattle.tree.specs.Tree.{Part}
 use Rattle.children.specs.Reading.{Child, Reading, foreign, read, newlines}
-use Rattle.children.specs.Gaps.{Go, Turn, Gap, gap_of, bare, Gaps, stopped, ending, widen, gaps, last_gap, turn, ended_by}
+use Rattle.children.specs.Gaps.{Turn, Gap, gap_of, bare, Gaps, stopped, ending, widen, gaps, last_gap, turn, ended_by}
 use Rattle.tree.specs.Index.{Region, parts_from, part_at, end_at}
 use Rattle.children.specs.Spans.{Lies, gap_at, Outlines}
 use Rattle.children.specs.Whole.{read_from, ending_at, sums_of}
-use Rattle.children.specs.Gaps as G
 
 -- an error waits
 abbrev pub adds_error : Go → Part → List Part
-adds_error G.inline x = []
-adds_error G.last x = []
-adds_error G.wait x = []
-adds_error G.error x = x ∷ []
-adds_error G.skip x = []
-adds_error G.over x = []
+adds_error Go.Inline x = []
+adds_error Go.Last x = []
+adds_error Go.Wait x = []
+adds_error Go.Error x = x ∷ []
+adds_error Go.Skip x = []
+adds_error Go.Over x = []
 
 -- one element, the gaps from the next on, and those behind a child
 abbrev pub led_by : Turn → Part → Gaps → Gaps → Gaps
-led_by (G.on t) x on behind = widen [] (adds_error t x) on
-led_by G.child x on behind = Gaps.child (gap_of [] [] false) x behind
-led_by G.out x on behind = ending (gap_of [] [] false)
-led_by G.foreign x on behind = stopped (gap_of [] [] false) x.number
+led_by (Continue t) x on behind = widen [] (adds_error t x) on
+led_by (Break e) x on behind = ended_by e (gap_of [] [] false) x behind
 
 -- the gaps of a reading with a trailing list
 unfoldable pub leads : Kinds → Bool → List Part → Gaps

@@ -1,5 +1,5 @@
 -- What the numbers that the code walks with mean: gaps, and what a survey of a reading says.
-use Rattle.std.specs.Prelude.{◌≡◌, Bool, true, false, cond, not, List, ℕ, ◌+◌, ◌<◌, ◌≤◌, length}
+use Rattle.std.specs.Prelude.{◌≡◌, Bool, true, false, cond, not, List, ℕ, ◌+◌, ◌*◌, ◌<◌, ◌≤◌, length}
 use Rattle.tree.specs.declared.class.Kinds.{Kinds}
 use Rattle.tree.specs.Index.{Region, parts_from, part_at, end_at}
 use Rattle.children.specs.declared.gap.End.TheVariants as End
@@ -23,8 +23,8 @@ pub record Lies (image index : List ℕ) (r : Span) : Type 0 where
   pub first : Stretch image index r.from r.cut
   pub second : Stretch image index r.cut r.to
   pub tells : Tells (gap_at image index r).inline (gap_at image index r).waiting r.tally
-  -- its newlines are no more than there are bytes and numbers
-  pub few : r.tally.before + r.tally.back ≤ length image + length index
+  -- its newlines are no more than there are bytes, and two for each element
+  pub few : r.tally.before + r.tally.back ≤ length image + 2 * first.n
 
 -- r is the gap at `from` of a reading up to b, behind a child or at the reading's start.
 pub record Spans (image index : List ℕ) (w : Kinds) (loose after : Bool) (from b : ℕ) (r : Span) : Type 0 where

@@ -8,8 +8,7 @@ ghost use Rattle.children.specs.Between.{Beside, Ends, Led, is_kept, foreign_in,
 
 use super::turn::{is_separator, note_kinds};
 use numbers::Element;
-use tree::Found;
-use tree::access::{end_at, kind_at};
+use tree::Tree;
 use tree::class::is;
 
 // The trivia and custom errors from one element up to another, unless a foreign element stands there.
@@ -17,7 +16,7 @@ use tree::class::is;
 pub struct Notes {
     pub from: u32,
     pub to: u32,
-    pub foreign: Found,
+    pub foreign: Option<Element>,
 }
 
 // Whether a kind is trivia, a custom error or a separator.
@@ -30,26 +29,26 @@ fn is_kept(k: u32) -> bool
 }
 
 // The first foreign element from a on that begins before b.
-fn foreign_of(image: &[u8], index: &[u32], a: u32, b: u32) -> Found
-    requires { Region image.now index.now a b }
-    ensures { found result ≡ foreign_in (parts_from image.now index.now a b) }
+fn foreign_of(tree: &Tree, a: u32, b: u32) -> Option<Element>
+    requires { Region tree.now.image tree.now.index a b }
+    ensures { found result ≡ foreign_in (parts_from tree.now.image tree.now.index a b) }
 {
     let mut j = a;
     while j < b {
-        if !is_kept(kind_at(index, j)) {
-            return Found::At(Element(j));
+        if !is_kept(tree.kind_at(j)) {
+            return Some(Element(j));
         }
-        j = end_at(index, j);
+        j = tree.end_at(j);
     }
-    Found::Nothing
+    None
 }
 
 // The trivia and custom errors from a on that begin before b, which is a strict reading.
-fn strict_notes(image: &[u8], index: &[u32], a: u32, b: u32) -> Notes
-    requires { Region image.now index.now a b }
-    ensures { Beside image.now index.now (strict (parts_from image.now index.now a b)) a b result }
+fn strict_notes(tree: &Tree, a: u32, b: u32) -> Notes
+    requires { Region tree.now.image tree.now.index a b }
+    ensures { Beside tree.now.image tree.now.index (strict (parts_from tree.now.image tree.now.index a b)) a b result }
 {
-    let foreign = foreign_of(image, index, a, b);
+    let foreign = foreign_of(tree, a, b);
     Notes {
         from: a,
         to: b,
@@ -58,50 +57,50 @@ fn strict_notes(image: &[u8], index: &[u32], a: u32, b: u32) -> Notes
 }
 
 // Where the trivia and custom errors end that come first from a on.
-fn leading_end(image: &[u8], index: &[u32], a: u32, b: u32) -> u32
-    requires { Region image.now index.now a b }
-    ensures { Led image.now index.now a b result }
+fn leading_end(tree: &Tree, a: u32, b: u32) -> u32
+    requires { Region tree.now.image tree.now.index a b }
+    ensures { Led tree.now.image tree.now.index a b result }
 {
     let w = note_kinds();
     let mut j = a;
     while j < b {
-        if !is(w, kind_at(index, j)) {
+        if !is(w, tree.kind_at(j)) {
             return j;
         }
-        j = end_at(index, j);
+        j = tree.end_at(j);
     }
     j
 }
 
 // The trivia before an expression among the elements from a on that begin before b; without one, the trivia that comes first.
-pub fn trivia_before(image: &[u8], index: &[u32], e: Found, a: u32, b: u32) -> Notes
-    requires { Ends image.now index.now a b (found e) none }
-    ensures { BeforeIn image index (found e) a b result }
+pub fn trivia_before(tree: &Tree, e: Option<Element>, a: u32, b: u32) -> Notes
+    requires { Ends tree.now.image tree.now.index a b (found e) none }
+    ensures { BeforeIn tree (found e) a b result }
 {
     match e {
-        Found::At(x) => strict_notes(image, index, a, x.0),
-        Found::Nothing => {
-            let to = leading_end(image, index, a, b);
+        Some(x) => strict_notes(tree, a, x.0),
+        None => {
+            let to = leading_end(tree, a, b);
             Notes {
                 from: a,
                 to,
-                foreign: Found::Nothing,
+                foreign: None,
             }
         }
     }
 }
 
 // The trivia behind an expression among the elements from a on that begin before b; without one, nothing.
-pub fn trivia_after(image: &[u8], index: &[u32], e: Found, a: u32, b: u32) -> Notes
-    requires { Ends image.now index.now a b (found e) none }
-    ensures { AfterIn image index (found e) a b result }
+pub fn trivia_after(tree: &Tree, e: Option<Element>, a: u32, b: u32) -> Notes
+    requires { Ends tree.now.image tree.now.index a b (found e) none }
+    ensures { AfterIn tree (found e) a b result }
 {
     match e {
-        Found::At(x) => strict_notes(image, index, end_at(index, x.0), b),
-        Found::Nothing => Notes {
+        Some(x) => strict_notes(tree, tree.end_at(x.0), b),
+        None => Notes {
             from: b,
             to: b,
-            foreign: Found::Nothing,
+            foreign: None,
         },
     }
 }

@@ -3,8 +3,8 @@ ghost use Rattle.std.specs.Prelude.{◌≡◌};
 ghost use Rattle.tree.specs.Answer.{found};
 ghost use Rattle.children.specs.Between.{from_at, to_at, Ends, Bounded};
 
-use tree::access::end_at;
-use tree::{Found, is_nothing};
+use numbers::Element;
+use tree::Tree;
 
 // Where a reading begins and ends, and whether it is loose.
 #[derive(Clone, Copy)]
@@ -15,46 +15,40 @@ pub struct Bounds {
 }
 
 // Just behind the start, or at the node's first element.
-fn from_of(index: &[u32], start: Found, a: u32) -> u32
-    ensures { result ≡ from_at index.now (found start) a }
+fn from_of(tree: &Tree, start: Option<Element>, a: u32) -> u32
+    ensures { result ≡ from_at tree.now.index (found start) a }
 {
     match start {
-        Found::At(e) => end_at(index, e.0),
-        Found::Nothing => a,
+        Some(e) => tree.end_at(e.0),
+        None => a,
     }
 }
 
 // The end, if it stands behind the start, or else the node's last element.
-fn to_of(end: Found, from: u32, b: u32) -> u32
+fn to_of(end: Option<Element>, from: u32, b: u32) -> u32
     ensures { result ≡ to_at (found end) from b }
 {
     match end {
-        Found::At(e) => {
-            if e.0 < from {
-                return b;
-            }
-            e.0
-        }
-        Found::Nothing => b,
+        Some(e) if from <= e.0 => e.0,
+        _ => b,
     }
 }
 
 // The bounds of a reading of a node's elements, which stand from a on and begin before b.
 pub fn bounds_between(
-    image: &[u8],
-    index: &[u32],
-    start: Found,
-    end: Found,
+    tree: &Tree,
+    start: Option<Element>,
+    end: Option<Element>,
     a: u32,
     b: u32,
 ) -> Bounds
-    requires { Ends image.now index.now a b (found start) (found end) }
-    ensures { Bounded image.now index.now a b (found start) (found end) result }
+    requires { Ends tree.now.image tree.now.index a b (found start) (found end) }
+    ensures { Bounded tree.now.image tree.now.index a b (found start) (found end) result }
 {
-    let from = from_of(index, start, a);
+    let from = from_of(tree, start, a);
     let to = to_of(end, from, b);
-    let unbound = is_nothing(start);
-    let endless = is_nothing(end);
+    let unbound = start.is_none();
+    let endless = end.is_none();
     Bounds {
         from,
         to,

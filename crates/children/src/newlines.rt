@@ -4,20 +4,21 @@ ghost use Rattle.children.specs.Gaps.{newlines_at};
 ghost use Rattle.children.specs.Spans.{Lies, gap_at};
 
 use super::gap::Span;
+use tree::Tree;
 
 // The newlines of a gap: two or more ask for a blank line, one or more for many lines.
-pub fn newlines_at(image: &[u8], index: &[u32], s: Span) -> usize
-    requires { Lies image.now index.now s }
-    ensures { result ≡ newlines_at (gap_at image.now index.now s) }
+pub fn newlines_at(tree: &Tree, s: Span) -> usize
+    requires { Lies tree.now.image tree.now.index s }
+    ensures { result ≡ newlines_at (gap_at tree.now.image tree.now.index s) }
 {
     s.tally.before + s.tally.back
 }
 
 // Whether the child behind a gap asks for a blank line.
-pub fn blank_line(image: &[u8], index: &[u32], s: Span) -> bool
-    requires { Lies image.now index.now s }
-    ensures { result ≡ (s.had && leb 2 (newlines_at (gap_at image.now index.now s))) }
+pub fn blank_line(tree: &Tree, s: Span) -> bool
+    requires { Lies tree.now.image tree.now.index s }
+    ensures { result ≡ (s.had && leb 2 (newlines_at (gap_at tree.now.image tree.now.index s))) }
 {
-    let n = newlines_at(image, index, s);
+    let n = newlines_at(tree, s);
     s.had & (n >= 2)
 }

@@ -9,7 +9,7 @@ ghost use Rattle.children.specs.Spans.{Lies, gap_at, Surveying, Surveyed, Survey
 
 use super::gap::{End, Span, at_child, at_foreign, ended_by, gap, lead};
 use super::newlines::newlines_at;
-use tree::access::end_at;
+use tree::Tree;
 use tree::class::Kinds;
 
 // What a reading comes to: how many children, whether one triggers many lines, whether a blank line is asked for behind
@@ -31,17 +31,17 @@ pub fn is_stopped(o: Outline) -> bool
 }
 
 // The newlines of what waits in a gap.
-fn waiting_newlines(image: &[u8], index: &[u32], s: Span) -> usize
-    requires { Lies image.now index.now s }
-    ensures { result ≡ newlines_before (gap_at image.now index.now s).waiting }
+fn waiting_newlines(tree: &Tree, s: Span) -> usize
+    requires { Lies tree.now.image tree.now.index s }
+    ensures { result ≡ newlines_before (gap_at tree.now.image tree.now.index s).waiting }
 {
     s.tally.before
 }
 
 // Whether nothing waits in a gap.
-pub fn nothing_waits(image: &[u8], index: &[u32], s: Span) -> bool
-    requires { Lies image.now index.now s }
-    ensures { result ≡ is_nil (gap_at image.now index.now s).waiting }
+pub fn nothing_waits(tree: &Tree, s: Span) -> bool
+    requires { Lies tree.now.image tree.now.index s }
+    ensures { result ≡ is_nil (gap_at tree.now.image tree.now.index s).waiting }
 {
     !s.tally.waits
 }
@@ -60,8 +60,7 @@ fn alone(s: Span, blank: bool) -> Outline
 
 // The rest of a reading up to b, from a gap on, behind some children of which one triggers many lines or none.
 fn survey_from(
-    image: &[u8],
-    index: &[u32],
+    tree: &Tree,
     w: Kinds,
     loose: bool,
     first: Span,
@@ -69,18 +68,18 @@ fn survey_from(
     already: bool,
     b: u32,
 ) -> Outline
-    requires { Surveying image.now index.now b first before }
-    ensures { SurveyedFrom image.now index.now w loose b first before already result }
+    requires { Surveying tree.now.image tree.now.index b first before }
+    ensures { SurveyedFrom tree.now.image tree.now.index w loose b first before already result }
 {
     let mut s = first;
     let mut children = before;
     let mut many = already;
-    let mut n = newlines_at(image, index, s);
+    let mut n = newlines_at(tree, s);
     while at_child(s) {
         many = many | (n >= 1);
         children += 1;
-        s = gap(image, index, w, loose, true, end_at(index, s.to), b);
-        n = newlines_at(image, index, s);
+        s = gap(tree, w, loose, true, tree.end_at(s.to), b);
+        n = newlines_at(tree, s);
     }
     if at_foreign(s) {
         return alone(s, false);
@@ -94,40 +93,32 @@ fn survey_from(
 }
 
 // The whole of a reading from `from` up to b.
-pub fn survey(image: &[u8], index: &[u32], w: Kinds, loose: bool, from: u32, b: u32) -> Outline
-    requires { Region image.now index.now from b }
-    ensures { Surveyed image.now index.now w loose from b result }
+pub fn survey(tree: &Tree, w: Kinds, loose: bool, from: u32, b: u32) -> Outline
+    requires { Region tree.now.image tree.now.index from b }
+    ensures { Surveyed tree.now.image tree.now.index w loose from b result }
 {
-    let s = gap(image, index, w, loose, false, from, b);
-    survey_from(image, index, w, loose, s, 0, false, b)
+    let s = gap(tree, w, loose, false, from, b);
+    survey_from(tree, w, loose, s, 0, false, b)
 }
 
 // The whole of a reading from `from` up to b whose trailing list is what waits in the gap t.
-pub fn survey_after(
-    image: &[u8],
-    index: &[u32],
-    w: Kinds,
-    loose: bool,
-    t: Span,
-    from: u32,
-    b: u32,
-) -> Outline
-    requires region { Region image.now index.now from b }
-    requires lies { Lies image.now index.now t }
-    ensures { SurveyedAfter image.now index.now w loose t from b result }
+pub fn survey_after(tree: &Tree, w: Kinds, loose: bool, t: Span, from: u32, b: u32) -> Outline
+    requires region { Region tree.now.image tree.now.index from b }
+    requires lies { Lies tree.now.image tree.now.index t }
+    ensures { SurveyedAfter tree.now.image tree.now.index w loose t from b result }
 {
-    let first = lead(image, index, w, loose, from, b);
+    let first = lead(tree, w, loose, from, b);
     if at_foreign(first) {
         return alone(first, false);
     }
     if !at_child(first) {
-        return alone(first, waiting_newlines(image, index, first) >= 2);
+        return alone(first, waiting_newlines(tree, first) >= 2);
     }
-    if !nothing_waits(image, index, first) {
+    if !nothing_waits(tree, first) {
         let barred = ended_by(first, End::Foreign);
         return alone(barred, false);
     }
-    let many = waiting_newlines(image, index, t) >= 1;
-    let next = gap(image, index, w, loose, true, end_at(index, first.to), b);
-    survey_from(image, index, w, loose, next, 1, many, b)
+    let many = waiting_newlines(tree, t) >= 1;
+    let next = gap(tree, w, loose, true, tree.end_at(first.to), b);
+    survey_from(tree, w, loose, next, 1, many, b)
 }

@@ -8,7 +8,7 @@ use cases::front;
 use children::gap::{Span, at_child, gap, lead};
 use children::newlines::{blank_line, newlines_at};
 use children::survey::{Outline, is_stopped, survey, survey_after};
-use tree::access::{end_at, kind_at};
+use tree::Tree;
 use tree::class::{Class, Kinds, is, kinds_of};
 
 // Room for an image and for its index.
@@ -22,7 +22,7 @@ const SIGN: u32 = 255;
 // The digest of no number.
 pub const BASIS: u32 = 2166136261;
 
-const PRIME: u64 = 16777619;
+const PRIME: u32 = 16777619;
 
 // A digest of each reading: strict, loose, and the same with a trailing list.
 #[derive(Clone, Copy)]
@@ -43,30 +43,24 @@ pub fn basis() -> Digests {
     }
 }
 
-// The product with the prime, of 32 bits.
-fn product(m: u32) -> u32 {
-    let n = ((m as u64) * PRIME) % 4294967296;
-    n as u32
-}
-
 // A number more in a digest, which is FNV-1a of 32 bits.
 pub fn mix(h: u32, x: u32) -> u32 {
-    product(h ^ x)
+    (h ^ x).wrapping_mul(PRIME)
 }
 
 fn bit(b: bool) -> u32 {
-    if b { 1 } else { 0 }
+    u32::from(b)
 }
 
 // The numbers of the siblings of these kinds from a on that begin before b.
-fn mix_all(table: &[u32], w: Kinds, a: u32, b: u32, h: u32) -> u32 {
+fn mix_all(tree: &Tree, w: Kinds, a: u32, b: u32, h: u32) -> u32 {
     let mut n = h;
     let mut j = a;
     while j < b {
-        if is(w, kind_at(table, j)) {
+        if is(w, tree.kind_at(j)) {
             n = mix(n, j);
         }
-        let next = end_at(table, j);
+        let next = tree.end_at(j);
         if next <= j {
             return n;
         }
@@ -75,99 +69,99 @@ fn mix_all(table: &[u32], w: Kinds, a: u32, b: u32, h: u32) -> u32 {
     n
 }
 
-fn mix_inline(table: &[u32], s: Span, h: u32) -> u32 {
+fn mix_inline(tree: &Tree, s: Span, h: u32) -> u32 {
     mix(
-        mix_all(table, kinds_of(Class::Trivia), s.from, s.cut, h),
+        mix_all(tree, kinds_of(Class::Trivia), s.from, s.cut, h),
         SIGN,
     )
 }
 
-fn mix_waiting(table: &[u32], s: Span, h: u32) -> u32 {
-    let n = mix_all(table, kinds_of(Class::CustomError), s.from, s.cut, h);
+fn mix_waiting(tree: &Tree, s: Span, h: u32) -> u32 {
+    let n = mix_all(tree, kinds_of(Class::CustomError), s.from, s.cut, h);
     let notes = Kinds {
         lo: 64,
         hi: 72,
         but: 0,
     };
-    mix(mix_all(table, notes, s.cut, s.to, n), SIGN)
+    mix(mix_all(tree, notes, s.cut, s.to, n), SIGN)
 }
 
 // What a survey says: the foreign element, or the children, many lines, the ending's blank line and its trivia.
-fn mix_outline(table: &[u32], o: Outline, h: u32) -> u32 {
+fn mix_outline(tree: &Tree, o: Outline, h: u32) -> u32 {
     let last = o.last;
     if is_stopped(o) {
         return mix(mix(h, 1), last.to);
     }
     let n = mix(mix(mix(mix(h, 2), o.children), bit(o.many)), bit(o.blank));
-    mix_waiting(table, last, n)
+    mix_waiting(tree, last, n)
 }
 
 // The children from the one behind a gap on: number, blank line, many lines, what waited, what is inline.
-fn mix_walk(image: &[u8], table: &[u32], w: Kinds, loose: bool, first: Span, b: u32, h: u32) -> u32
-    requires { Surveying image.now table.now b first 0 }
+fn mix_walk(tree: &Tree, w: Kinds, loose: bool, first: Span, b: u32, h: u32) -> u32
+    requires { Surveying tree.now.image tree.now.index b first 0 }
 {
     let mut s = first;
     let mut n = h;
     while at_child(s) {
-        n = mix(mix(n, s.to), bit(blank_line(image, table, s)));
-        n = mix(n, bit(newlines_at(image, table, s) >= 1));
-        n = mix_waiting(table, s, n);
-        s = gap(image, table, w, loose, true, end_at(table, s.to), b);
-        n = mix_inline(table, s, n);
+        n = mix(mix(n, s.to), bit(blank_line(tree, s)));
+        n = mix(n, bit(newlines_at(tree, s) >= 1));
+        n = mix_waiting(tree, s, n);
+        s = gap(tree, w, loose, true, tree.end_at(s.to), b);
+        n = mix_inline(tree, s, n);
     }
     n
 }
 
 // A reading with no trailing list.
-fn plain(image: &[u8], table: &[u32], loose: bool, a: u32, b: u32, h: u32) -> u32
-    requires { Region image.now table.now a b }
+fn plain(tree: &Tree, loose: bool, a: u32, b: u32, h: u32) -> u32
+    requires { Region tree.now.image tree.now.index a b }
 {
     let w = kinds_of(Class::Expr);
-    let o = survey(image, table, w, loose, a, b);
-    let n = mix_outline(table, o, h);
+    let o = survey(tree, w, loose, a, b);
+    let n = mix_outline(tree, o, h);
     if is_stopped(o) {
         return n;
     }
-    let s = gap(image, table, w, loose, false, a, b);
-    mix_walk(image, table, w, loose, s, b, n)
+    let s = gap(tree, w, loose, false, a, b);
+    mix_walk(tree, w, loose, s, b, n)
 }
 
 // A reading whose trailing list is what waits in the first gap of the reading without one.
-fn trailing(image: &[u8], table: &[u32], loose: bool, a: u32, b: u32, h: u32) -> u32
-    requires { Region image.now table.now a b }
+fn trailing(tree: &Tree, loose: bool, a: u32, b: u32, h: u32) -> u32
+    requires { Region tree.now.image tree.now.index a b }
 {
     let w = kinds_of(Class::Expr);
-    let t = gap(image, table, w, loose, false, a, b);
-    let o = survey_after(image, table, w, loose, t, a, b);
-    let n = mix_outline(table, o, h);
+    let t = gap(tree, w, loose, false, a, b);
+    let o = survey_after(tree, w, loose, t, a, b);
+    let n = mix_outline(tree, o, h);
     if is_stopped(o) {
         return n;
     }
-    let s = lead(image, table, w, loose, a, b);
+    let s = lead(tree, w, loose, a, b);
     if !at_child(s) {
         return n;
     }
     let many = t.tally.before >= 1;
-    let m = mix_waiting(table, t, mix(mix(n, s.to), bit(many)));
-    let next = gap(image, table, w, loose, true, end_at(table, s.to), b);
-    mix_walk(image, table, w, loose, next, b, mix_inline(table, next, m))
+    let m = mix_waiting(tree, t, mix(mix(n, s.to), bit(many)));
+    let next = gap(tree, w, loose, true, tree.end_at(s.to), b);
+    mix_walk(tree, w, loose, next, b, mix_inline(tree, next, m))
 }
 
 // The four readings of the children of the first element, behind what the digests hold.
-fn answers(image: &[u8], table: &[u32], d: Digests) -> Digests
-    requires { Indexed image.now table.now }
+fn answers(tree: &Tree, d: Digests) -> Digests
+    requires { Indexed tree.now.image tree.now.index }
 {
     let node: u32 = 0;
-    if tree::element_count(image) <= node {
+    if tree::element_count(tree.image) <= node {
         return d;
     }
     let a = node + 1;
-    let b = end_at(table, node);
+    let b = tree.end_at(node);
     Digests {
-        strict: plain(image, table, false, a, b, d.strict),
-        loose: plain(image, table, true, a, b, d.loose),
-        strict_after: trailing(image, table, false, a, b, d.strict_after),
-        loose_after: trailing(image, table, true, a, b, d.loose_after),
+        strict: plain(tree, false, a, b, d.strict),
+        loose: plain(tree, true, a, b, d.loose),
+        strict_after: trailing(tree, false, a, b, d.strict_after),
+        loose_after: trailing(tree, true, a, b, d.loose_after),
     }
 }
 
@@ -177,7 +171,11 @@ fn answered(image: &[u8], d: Digests) -> Digests {
     if !tree::index::try_index(image, &mut table) {
         return d;
     }
-    answers(image, &table, d)
+    let tree = Tree {
+        image,
+        index: &table,
+    };
+    answers(&tree, d)
 }
 
 // The same from a sequence.

@@ -9,9 +9,7 @@ mod sequence;
 ghost use Rattle.std.specs.Prelude.{◌≤◌};
 
 use answer::{BASIS, Digests, basis, mix, mix_answers};
-use cases::{
-    Agreement, behind, behind_fields, byte, front, line, load, more, nth_field, number32, zeros,
-};
+use cases::{Agreement, Cases, behind, front, line, load, more, nth_field, number32, zeros};
 use sequence::{LONGEST, spell};
 use std::io::Result;
 
@@ -45,10 +43,8 @@ fn all_of(n: usize, total: u32) -> Digests
     requires { n ≤ 7 }
 {
     let mut d = basis();
-    let mut k: u32 = 0;
-    while k < total {
+    for k in 0..total {
         d = mix_number(n, k, d);
-        k += 1;
     }
     d
 }
@@ -74,21 +70,15 @@ fn compare(rt: &impl Print, v: &[u8], n: usize, total: u32) -> Result<()>
 }
 
 fn compare_all(rt: &impl Print, v: &[u8]) -> Result<()> {
-    let mut n = 0;
-    while n <= LONGEST {
-        compare(rt, v, n, COUNTS[n])?;
-        n += 1;
+    for (n, total) in COUNTS.iter().enumerate() {
+        compare(rt, v, n, *total)?;
     }
     Ok(())
 }
 
 // The digest of an answer.
 fn digest(answer: &[u8]) -> u32 {
-    let mut h = BASIS;
-    for i in 0..answer.len() {
-        h = mix(h, byte(answer, i) as u32);
-    }
-    h
+    answer.iter().fold(BASIS, |h, b| mix(h, *b as u32))
 }
 
 // The first sequence of the sample has the four answers that stand behind it.
@@ -125,11 +115,8 @@ fn replayed(v: &[u8]) -> Sample {
         found: Agreement::none(),
         before: 0,
     };
-    let mut rest = v;
-    while 0 < rest.len() {
-        s = counted(s, agrees(rest));
-        let next = behind_fields(rest, FIELDS);
-        rest = next;
+    for case in Cases::of(v, FIELDS) {
+        s = counted(s, agrees(case));
     }
     s
 }

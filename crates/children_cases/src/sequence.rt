@@ -14,11 +14,9 @@ const ENTRY: usize = 8;
 // The sequence of a number: its decimal digits, the lowest first.
 pub fn spell(number: u32, word: &mut [u8]) {
     let mut rest = number;
-    let mut i = 0;
-    while i < word.len() {
-        word[i] = (rest % 10) as u8;
-        rest = rest / 10;
-        i += 1;
+    for letter in word.iter_mut() {
+        *letter = (rest % 10) as u8;
+        rest /= 10;
     }
 }
 
@@ -53,7 +51,7 @@ fn put_text(image: &mut [u8], at: usize, letter: u8) -> usize {
 
 // How far an end lies behind a beginning, in a byte.
 fn size(from: usize, end: usize) -> u8 {
-    (std::num::wrapping_sub_usize(end, from) % 256) as u8
+    (end.wrapping_sub(from) % 256) as u8
 }
 
 // Writes the i-th element behind the root and its text, and says where the text ends.
@@ -73,10 +71,8 @@ fn put_elements(word: &[u8], image: &mut [u8], at: usize) -> usize
     requires { length word.now ≤ 7 }
 {
     let mut end = at;
-    let mut i = 0;
-    while i < word.len() {
-        end = put_element(image, i, end, word[i]);
-        i += 1;
+    for (i, letter) in word.iter().enumerate() {
+        end = put_element(image, i, end, *letter);
     }
     end
 }

@@ -1,12 +1,10 @@
 // Tokens of about 32,000 bytes, made from a recipe: a head, a piece that comes so many times, and a tail.
 ghost use Rattle.std.specs.Prelude.{◌≡◌, ◌+◌, ◌*◌, ◌%◌};
 
-use crate::replay::sizes_agree;
-use cases::{
-    Agreement, behind, behind_fields, byte, front, nth_field, number, number32, put_all, word,
-};
+use crate::replay::{at_places, printed, sizes_agree};
+use cases::{Agreement, Cases, behind, byte, front, nth_field, number, number32, put_all, word};
 use comments::CommentLocation;
-use items::{Printed, RECORD, Size, no_size};
+use items::{RECORD, Size};
 
 // A case has seven fields: the token's kind, head and piece, how often the piece comes, the tail, and what is expected above
 // an item and inline.
@@ -33,27 +31,13 @@ fn mixed(sum: u64, w: u32) -> u64
     ((sum % MODULUS) * FACTOR + w as u64) % MODULUS
 }
 
-// The first n words.
-fn mixed_words(records: &[u32], n: usize, sum: u64) -> u64 {
-    let mut found = sum;
-    for i in 0..n {
-        found = mixed(found, word(records, i));
-    }
-    found
-}
-
-fn mixed_bytes(texts: &[u8], sum: u64) -> u64 {
-    let mut found = sum;
-    for i in 0..texts.len() {
-        found = mixed(found, byte(texts, i) as u32);
-    }
-    found
-}
-
 // A checksum over the words of the records and the bytes of the texts that `c` counts.
 fn checksum(records: &[u32], texts: &[u8], c: Size) -> u64 {
-    let sum = mixed_words(records, RECORD * (c.records as usize), 0);
-    mixed_bytes(front(texts, c.texts as usize), sum)
+    let words = RECORD * (c.records as usize);
+    let sum = (0..words).fold(0, |sum, i| mixed(sum, word(records, i)));
+    front(texts, c.texts as usize)
+        .iter()
+        .fold(sum, |sum, b| mixed(sum, *b as u32))
 }
 
 // A token at one place prints so many records and text bytes, with this checksum.
@@ -65,28 +49,12 @@ fn agrees_at(
     loc: CommentLocation,
     want: &[u8],
 ) -> bool {
-    let p = comments::format_comment(records, texts, kind, s, loc, Printed::Done(no_size(false)));
-    let Printed::Done(c) = p else {
+    let Some(c) = printed(records, texts, kind, s, loc) else {
         return false;
     };
     let sizes = (c.records == number32(want)) & (c.texts == number32(behind(want, TEXTS)));
     let sum = checksum(records, texts, c) == number32(behind(want, SUM)) as u64;
     sizes & sum & sizes_agree(kind, s, loc, c)
-}
-
-// A token at its three places. At the end of items it prints what it prints above an item.
-fn agrees(
-    records: &mut [u32],
-    texts: &mut [u8],
-    kind: u32,
-    s: &[u8],
-    above: &[u8],
-    inline: &[u8],
-) -> bool {
-    let a = agrees_at(records, texts, kind, s, CommentLocation::AboveItem, above);
-    let b = agrees_at(records, texts, kind, s, CommentLocation::ItemInline, inline);
-    let c = agrees_at(records, texts, kind, s, CommentLocation::EndOfItems, above);
-    a & b & c
 }
 
 // Puts a piece so many times, and says where the last ends.
@@ -120,11 +88,9 @@ fn case_agrees(records: &mut [u32], texts: &mut [u8], v: &[u8]) -> bool {
     if n < LARGE {
         return false;
     }
-    agrees(
-        records,
-        texts,
-        kind,
-        front(&token, n),
+    let s = front(&token, n);
+    at_places(
+        |loc, want| agrees_at(records, texts, kind, s, loc, want),
         nth_field(v, 5),
         nth_field(v, 6),
     )
@@ -133,11 +99,8 @@ fn case_agrees(records: &mut [u32], texts: &mut [u8], v: &[u8]) -> bool {
 // All cases of v.
 pub fn replayed(records: &mut [u32], texts: &mut [u8], v: &[u8]) -> Agreement {
     let mut found = Agreement::none();
-    let mut rest = v;
-    while 0 < rest.len() {
-        found = found.with(case_agrees(records, texts, rest));
-        let next = behind_fields(rest, FIELDS);
-        rest = next;
+    for case in Cases::of(v, FIELDS) {
+        found = found.with(case_agrees(records, texts, case));
     }
     found
 }

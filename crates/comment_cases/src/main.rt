@@ -31,96 +31,26 @@ const ERROR_CUSTOM: u32 = 72;
 
 fn report(rt: &impl Print, label: &[u8], a: Agreement) -> Result<()> {
     a.print(rt, label)?;
-    line(rt, b"  differ", std::num::wrapping_sub_u64(a.seen, a.right))
+    line(rt, b"  differ", a.seen.wrapping_sub(a.right))
 }
 
-fn replay_kind(
-    rt: &impl Print,
-    records: &mut [u32],
-    texts: &mut [u8],
-    v: &[u8],
-    kind: u32,
-    label: &[u8],
-) -> Result<()> {
-    report(rt, label, replay::replayed(records, texts, v, kind))
-}
-
-fn replay_comments(rt: &impl Print, records: &mut [u32], texts: &mut [u8], v: &[u8]) -> Result<()> {
-    replay_kind(
-        rt,
-        records,
-        texts,
-        v,
-        MULTI_LINE_COMMENT,
-        b"multi-line comments",
-    )?;
-    replay_kind(
-        rt,
-        records,
-        texts,
-        v,
-        SINGLE_LINE_HASH_COMMENT,
-        b"hash comments",
-    )?;
-    replay_kind(
-        rt,
-        records,
-        texts,
-        v,
-        SINGLE_LINE_SLASH_COMMENT,
-        b"slash comments",
-    )
-}
-
-fn replay_other_trivia(
-    rt: &impl Print,
-    records: &mut [u32],
-    texts: &mut [u8],
-    v: &[u8],
-) -> Result<()> {
-    replay_kind(rt, records, texts, v, WHITESPACE, b"white space")?;
-    replay_kind(
-        rt,
-        records,
-        texts,
-        v,
-        ERROR_COMMENT_TOO_SHORT,
-        b"comments too short",
-    )?;
-    replay_kind(
-        rt,
-        records,
-        texts,
-        v,
-        ERROR_COMMENT_UNTERMINATED,
-        b"comments not ended",
-    )
-}
-
-fn replay_errors(rt: &impl Print, records: &mut [u32], texts: &mut [u8], v: &[u8]) -> Result<()> {
-    replay_kind(
-        rt,
-        records,
-        texts,
-        v,
-        ERROR_MISSING_TOKEN,
-        b"missing tokens",
-    )?;
-    replay_kind(
-        rt,
-        records,
-        texts,
-        v,
-        ERROR_UNEXPECTED_TOKEN,
-        b"unexpected tokens",
-    )?;
-    replay_kind(rt, records, texts, v, ERROR_CUSTOM, b"custom errors")
-}
-
+// The kinds of tokens, by their names in what is printed.
 fn replay_all(rt: &impl Print, records: &mut [u32], texts: &mut [u8], v: &[u8]) -> Result<()> {
-    replay_comments(rt, records, texts, v)?;
-    replay_other_trivia(rt, records, texts, v)?;
-    replay_errors(rt, records, texts, v)
+    let kinds: [(u32, &[u8]); 9] = [
+        (MULTI_LINE_COMMENT, b"multi-line comments"),
+        (SINGLE_LINE_HASH_COMMENT, b"hash comments"),
+        (SINGLE_LINE_SLASH_COMMENT, b"slash comments"),
+        (WHITESPACE, b"white space"),
+        (ERROR_COMMENT_TOO_SHORT, b"comments too short"),
+        (ERROR_COMMENT_UNTERMINATED, b"comments not ended"),
+        (ERROR_MISSING_TOKEN, b"missing tokens"),
+        (ERROR_UNEXPECTED_TOKEN, b"unexpected tokens"),
+        (ERROR_CUSTOM, b"custom errors"),
+    ];
+    for (kind, label) in kinds {
+        report(rt, label, replay::replayed(records, texts, v, kind))?;
+    }
+    Ok(())
 }
 
 fn replay_vectors<R: Files + Print>(

@@ -1,9 +1,9 @@
 // Tokens whose items are written out.
 ghost use Rattle.std.specs.Prelude.{◌-◌, ◌≤◌, length};
 
-use cases::{Agreement, behind, behind_fields, byte, front, nth_field, number, word};
+use cases::{Agreement, Cases, behind, byte, front, nth_field, number, word};
 use comments::CommentLocation;
-use items::{Printed, RECORD, Size, no_size};
+use items::{Output, RECORD, Size, no_size};
 
 // A case has four fields: the token's kind and text, and its items above an item and inline.
 const FIELDS: usize = 4;
@@ -62,40 +62,41 @@ fn items_agree(records: &[u32], texts: &[u8], c: Size, want: &[u8]) -> bool {
     let mut n: u32 = 0;
     let mut offset: u32 = 0;
     let mut rest = want;
-    while 0 < rest.len() {
+    while !rest.is_empty() {
         if !item_agrees(records, texts, n, offset, rest) {
             return false;
         }
         // The length of a text; 0 of any other record.
-        offset = std::num::wrapping_add_u32(offset, record_word(records, n, 2));
-        n = std::num::wrapping_add_u32(n, 1);
-        let next = behind_item(rest);
-        rest = next;
+        offset = offset.wrapping_add(record_word(records, n, 2));
+        n = n.wrapping_add(1);
+        rest = behind_item(rest);
     }
     (n == c.records) & (offset == c.texts)
 }
 
+// Prints a token from the start, and gives the size of what was printed.
+pub fn printed(
+    records: &mut [u32],
+    texts: &mut [u8],
+    kind: u32,
+    s: &[u8],
+    loc: CommentLocation,
+) -> Option<Size> {
+    let mut out = Output::new(records, texts, Some(no_size(false)));
+    comments::format_comment(&mut out, kind, s, loc);
+    out.size()
+}
+
 // Counts what is printed, with no room for any of it.
-fn counted(kind: u32, s: &[u8], loc: CommentLocation) -> Printed {
+fn counted(kind: u32, s: &[u8], loc: CommentLocation) -> Option<Size> {
     let mut records = [0u32; 0];
     let mut texts = [0u8; 0];
-    comments::format_comment(
-        &mut records,
-        &mut texts,
-        kind,
-        s,
-        loc,
-        Printed::Done(no_size(false)),
-    )
+    printed(&mut records, &mut texts, kind, s, loc)
 }
 
 // Counting alone gives this size.
 pub fn sizes_agree(kind: u32, s: &[u8], loc: CommentLocation, c: Size) -> bool {
-    let p = counted(kind, s, loc);
-    let Printed::Done(d) = p else {
-        return false;
-    };
-    (d.records == c.records) & (d.texts == c.texts)
+    counted(kind, s, loc).is_some_and(|d| (d.records == c.records) & (d.texts == c.texts))
 }
 
 // A token at one place prints these items.
@@ -107,25 +108,25 @@ fn agrees_at(
     loc: CommentLocation,
     want: &[u8],
 ) -> bool {
-    let p = comments::format_comment(records, texts, kind, s, loc, Printed::Done(no_size(false)));
-    let Printed::Done(c) = p else {
+    let Some(c) = printed(records, texts, kind, s, loc) else {
         return false;
     };
     items_agree(records, texts, c, want) & sizes_agree(kind, s, loc, c)
 }
 
-// A token at its three places. At the end of items it prints what it prints above an item.
-fn agrees(
-    records: &mut [u32],
-    texts: &mut [u8],
-    kind: u32,
-    s: &[u8],
+// Whether a token agrees at its three places. At the end of items it prints what it prints above an item.
+pub fn at_places<F: FnMut(CommentLocation, &[u8]) -> bool>(
+    mut agrees: F,
     above: &[u8],
     inline: &[u8],
-) -> bool {
-    let a = agrees_at(records, texts, kind, s, CommentLocation::AboveItem, above);
-    let b = agrees_at(records, texts, kind, s, CommentLocation::ItemInline, inline);
-    let c = agrees_at(records, texts, kind, s, CommentLocation::EndOfItems, above);
+) -> bool
+where
+    F: Drop,
+    requires { F.IsAlwaysCallable agrees }
+{
+    let a = agrees(CommentLocation::AboveItem, above);
+    let b = agrees(CommentLocation::ItemInline, inline);
+    let c = agrees(CommentLocation::EndOfItems, above);
     a & b & c
 }
 
@@ -150,11 +151,9 @@ fn tried(
     if number(nth_field(v, 0)) as u32 != kind {
         return found;
     }
-    let right = agrees(
-        records,
-        texts,
-        kind,
-        nth_field(v, 1),
+    let s = nth_field(v, 1);
+    let right = at_places(
+        |loc, want| agrees_at(records, texts, kind, s, loc, want),
         nth_field(v, 2),
         inline_items(v),
     );
@@ -164,11 +163,8 @@ fn tried(
 // The tokens of one kind.
 pub fn replayed(records: &mut [u32], texts: &mut [u8], v: &[u8], kind: u32) -> Agreement {
     let mut found = Agreement::none();
-    let mut rest = v;
-    while 0 < rest.len() {
-        found = tried(records, texts, rest, kind, found);
-        let next = behind_fields(rest, FIELDS);
-        rest = next;
+    for case in Cases::of(v, FIELDS) {
+        found = tried(records, texts, case, kind, found);
     }
     found
 }

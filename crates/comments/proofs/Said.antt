@@ -5,59 +5,57 @@ use mathlib.Core.List.{List, [], ◌∷◌, ◌++◌, map, flatten, append_assoc
 use Prim.Native.Nat.{ℕ, suc, ◌+◌, ◌-◌, ◌<◌, ◌≤◌}
 use native.Mathlib.Omega.{arith}
 use native.Mathlib.Numerals.{add-one}
-use lib.Dec.{leb, eqb}
-use lib.ListN.{length, take, drop, get_or, length-drop, drop_of_length-le, take-append-drop}
-use lib.Seq.{drop-cons, drop-drop, take_all, length-take-le}
-use borrow.Author.Tests.{eqb-true, eqb-false, eq-eqb, ne_eqb, lt-ltb, le-leb, leb-true, leb-false}
-use Rattle.text.specs.Basic.{ascii, is_nil, first_or, all, drop_while, drop_end, starts_with}
+use lib.Dec.{leb, ltb, eqb}
+use lib.ListN.{length, take, drop, get_or, length-drop}
+use lib.Seq.{take_all}
+use borrow.Author.Tests.{eqb-true, eqb-false, ne_eqb, lt-ltb, le-leb, leb-true, leb-false, ltb-true, ltb-false}
+use Rattle.text.specs.Basic.{ascii, is_nil, first_or, drop_while, drop_end, starts_with}
 use Rattle.text.proofs.BlankLines.{drops_commute, drop_end-twice, blank-lines, kept-lines, first-kept}
 use Rattle.text.specs.Text.{lines, line_end, padding, trim_end}
-use Rattle.text.proofs.Lists.{and_true}
 use Rattle.items.specs.Item.{Item, text, newline, tab}
-use Rattle.items.specs.Machine.{Held, Says}
-use Rattle.items.proofs.Laws.{unsaid, Going, going-none, going_more, going-all}
+use Rattle.items.specs.declared.Output.{Output}
+use Rattle.items.specs.Machine.{Says}
+use Rattle.items.proofs.Laws.{unsaid, Going, going_more, going-all}
 use Rattle.comments.specs.Comments.{Location, above_item, item_inline, end_of_items, optional, single_line, common, common_padding, block_lines, immediate, unpadded, tabbed, one_line, on_one_line, many_lines, block_of, multi_line, error_items, comment}
-use Rattle.comments.specs.Rows.{rows, FirstRow, is_cut, Piece}
+use Rattle.comments.specs.Rows.{rows, FirstRow, is_cut}
+use Rattle.std.specs.Prelude.{Some, None}
+use Rattle.std.specs.List.{position, position_or_len}
 use Rattle.comments.proofs.Walks.{row_step, rows_none}
 
 -- items by another name
-pub same : {xs ys : List Item} {o a : Held} → xs ≡ ys → Says xs o a → Says ys o a
+pub same : {xs ys : List Item} {o a : Output} → xs ≡ ys → Says xs o a → Says ys o a
 same e h = rw e at h
 
 -- a text by another name
-pub texts : {s t : List ℕ} {o a : Held} → s ≡ t → Says (text s ∷ []) o a → Says (text t ∷ []) o a
+pub texts : {s t : List ℕ} {o a : Output} → s ≡ t → Says (text s ∷ []) o a → Says (text t ∷ []) o a
 texts e h = same (ap (λ (u : List ℕ). text u ∷ []) e) h
 
-pub opt_yes : (b : Bool) (x : Item) {o a : Held} → b ≡ true → Says (x ∷ []) o a → Says (optional b x) o a
+pub opt_yes : (b : Bool) (x : Item) {o a : Output} → b ≡ true → Says (x ∷ []) o a → Says (optional b x) o a
 opt_yes b x e h = rw e h
 
-pub opt_no : (b : Bool) (x : Item) {o : Held} → b ≡ false → Says (optional b x) o o
+pub opt_no : (b : Bool) (x : Item) {o : Output} → b ≡ false → Says (optional b x) o o
 opt_no b x e = rw e unsaid
 
-pub pick_first : (b : Bool) (x y : Item) {o a : Held} → b ≡ true → Says (x ∷ []) o a → Says (cond b x y ∷ []) o a
+pub pick_first : (b : Bool) (x y : Item) {o a : Output} → b ≡ true → Says (x ∷ []) o a → Says (cond b x y ∷ []) o a
 pick_first b x y e h = rw e h
 
-pub pick_second : (b : Bool) (x y : Item) {o a : Held} → b ≡ false → Says (y ∷ []) o a → Says (cond b x y ∷ []) o a
+pub pick_second : (b : Bool) (x y : Item) {o a : Output} → b ≡ false → Says (y ∷ []) o a → Says (cond b x y ∷ []) o a
 pick_second b x y e h = rw e h
 
 -- a comment to the end of its line, by its rest
-pub single-rest : (opening : List ℕ) (loc : Location) {r t : List ℕ} {o a : Held} → r ≡ t → Says (single_line opening r loc) o a → Says (single_line opening t loc) o a
+pub single-rest : (opening : List ℕ) (loc : Location) {r t : List ℕ} {o a : Output} → r ≡ t → Says (single_line opening r loc) o a → Says (single_line opening t loc) o a
 single-rest opening loc e h = rw e at h
 
 -- CUSTOM ERRORS
+
+empty : (t : List ℕ) → length t ≡ 0 → t ≡ []
+empty [] h = refl
+empty (b ∷ t) h = absurd (omega arith)
 
 no_cut : (x y : Bool) → not (x || y) ≡ true → (x ≡ false) × (y ≡ false)
 no_cut true y h = absurd (false≢true h)
 no_cut false true h = absurd (false≢true h)
 no_cut false false h = (refl, refl)
-
-pieces-plain : (d u r : List ℕ) → all (λ b. not (is_cut b)) u ≡ true → error_items d (u ++ r) ≡ error_items (d ++ u) r
-unfolding error_items all
-pieces-plain d [] r h = rw append-nil
-pieces-plain d (b ∷ u) r h =
-    let (p, q) = and_true (not (is_cut b)) (all (λ b. not (is_cut b)) u) h in
-    let (x, y) = no_cut (eqb b 10) (eqb b 9) p in
-    rw (x, y) (pieces-plain (d ++ (b ∷ [])) u r q ∙ ap (λ (e : List ℕ). error_items e r) (append_assoc d (b ∷ []) u))
 
 pieces-cut : (u : List ℕ) (c : ℕ) (r : List ℕ) → is_cut c ≡ true → error_items u (c ∷ r) ≡ text u ∷ cond (eqb c 10) newline tab ∷ error_items [] r
 unfolding error_items
@@ -67,74 +65,99 @@ pieces-cut u c r h = go (eqb c 10) h
     go true k = refl
     go false k = rw k
 
+pieces-on : (u : List ℕ) (c : ℕ) (r : List ℕ) → is_cut c ≡ false → error_items u (c ∷ r) ≡ error_items (u ++ (c ∷ [])) r
+unfolding error_items
+pieces-on u c r h = let (x, y) = no_cut (eqb c 10) (eqb c 9) (ap not h) in rw (x, y)
+
+-- up to the first byte that parts two pieces stands one
+first-piece : (d r : List ℕ) → let n = position_or_len is_cut r in n < length r → error_items d r ≡ text (d ++ take n r) ∷ cond (eqb (get_or r n 0) 10) newline tab ∷ error_items [] (drop (suc n) r)
+first-piece d [] h = absurd (omega arith)
+first-piece d (c ∷ r) h = go (is_cut c) refl (first-piece (d ++ (c ∷ [])) r) h
+  where
+    m : ℕ
+    m = position_or_len is_cut r
+
+    go : (t : Bool) → is_cut c ≡ t
+        → (m < length r → error_items (d ++ (c ∷ [])) r ≡ text ((d ++ (c ∷ [])) ++ take m r) ∷ cond (eqb (get_or r m 0) 10) newline tab ∷ error_items [] (drop (suc m) r))
+        → let n = cond (not t) (1 + m) 0 in n < suc (length r) → error_items d (c ∷ r) ≡ text (d ++ take n (c ∷ r)) ∷ cond (eqb (get_or (c ∷ r) n 0) 10) newline tab ∷ error_items [] (drop n r)
+    go true e f k = rw append-nil (pieces-cut d c r e)
+    go false e f k =
+        let l : 1 + m ≡ suc m = omega arith in
+        rw l (pieces-on d c r e ∙ rw append_assoc at (f (omega arith)))
+
+-- where there is none, all is one
+last-piece : (d r : List ℕ) → length r ≤ position_or_len is_cut r → error_items d r ≡ error_items (d ++ r) []
+last-piece d [] h = rw append-nil
+last-piece d (c ∷ r) h = go (is_cut c) refl (last-piece (d ++ (c ∷ [])) r) h
+  where
+    m : ℕ
+    m = position_or_len is_cut r
+
+    go : (t : Bool) → is_cut c ≡ t → (length r ≤ m → error_items (d ++ (c ∷ [])) r ≡ error_items ((d ++ (c ∷ [])) ++ r) [])
+        → suc (length r) ≤ cond (not t) (1 + m) 0 → error_items d (c ∷ r) ≡ error_items (d ++ (c ∷ r)) []
+    go true e f k = absurd (omega arith)
+    go false e f k = pieces-on d c r e ∙ rw append_assoc at (f (omega arith))
+
 pieces_end : (u : List ℕ) → 0 < length u → error_items u [] ≡ text u ∷ []
 unfolding error_items
 pieces_end [] h = absurd (omega arith)
 pieces_end (b ∷ u) h = refl
 
--- The pieces before `at` are printed; the next one ends at e.
-pub record Erring (s : List ℕ) (o a : Held) (at e : ℕ) : Type 0 where
-  pub going : Going (error_items [] s) (error_items [] (drop at s)) o a
-  pub piece : Piece s at e
+uncut : (r : List ℕ) → None ≡ position is_cut r → error_items [] r ≡ error_items r []
+uncut r f = go (ltb n (length r)) refl f
+  where
+    n : ℕ
+    n = position_or_len is_cut r
 
-pub erring_none : (s : List ℕ) (o : Held) (e : ℕ) → Piece s 0 e → Erring s o o 0 e
-erring_none s o e p = record { going = going-none (error_items [] s) o; piece = p }
+    go : (t : Bool) → ltb n (length r) ≡ t → None ≡ cond t (Some n) None → error_items [] r ≡ error_items r []
+    go true q k = let z : ◌≡◌ {A = ℕ} 0 1 = cc in absurd (omega arith)
+    go false q k = last-piece [] r (ltb-false n (length r) q)
 
--- the text from `at` on is its piece and what stands behind that
-piece-split : {s : List ℕ} {at e : ℕ} → Piece s at e → drop at s ≡ take (e - at) (drop at s) ++ drop e s
-piece-split {s} {at} {e} p =
-    let n : at + (e - at) ≡ e = omega (arith, p) in
-    rw (drop-drop, n) at (sym (take-append-drop (e - at) (drop at s)))
+-- The pieces before r are printed, and there is a byte that parts two pieces in it, or none.
+module _ {xs : List Item} {o a : Output} (r : List ℕ) (g : Going xs (error_items [] r) o a) where
+  pub pieces-more : {b : Output} (i : ℕ) → Some i ≡ position is_cut r → Says (text (take i r) ∷ cond (eqb (get_or r i 0) 10) newline tab ∷ []) a b
+      → Going xs (error_items [] (take (length r - (i + 1)) (drop (i + 1) r))) o b
+  pieces-more {b} i f y = go (ltb n (length r)) refl f
+    where
+      n : ℕ
+      n = position_or_len is_cut r
 
-pub erring_more : {s : List ℕ} {o a b : Held} {at e : ℕ} (k f : ℕ) → Erring s o a at e → e < length s
-    → Says (text (take (e - at) (drop at s)) ∷ cond (eqb (get_or s e 0) 10) newline tab ∷ []) a b → k ≡ e + 1 → Piece s k f → Erring s o b k f
-erring_more {s} {o} {a} {b} {at} {e} k f r h y q p =
-    let u = take (e - at) (drop at s) in
-    let v : drop e s ≡ get_or s e 0 ∷ drop k s = rw (q, add-one e) (drop-cons s e 0 h) in
-    record {
-      going = going_more r.going (ap (error_items []) (piece-split r.piece ∙ ap (λ (t : List ℕ). u ++ t) v) ∙ pieces-plain [] u _ r.piece.plain ∙ pieces-cut u (get_or s e 0) (drop k s) (r.piece.cut h)) y;
-      piece = p;
-    }
+      go : (t : Bool) → ltb n (length r) ≡ t → Some i ≡ cond t (Some n) None → Going xs (error_items [] (take (length r - (i + 1)) (drop (i + 1) r))) o b
+      go true q k =
+          let e : n ≡ i = cc in
+          let m : take (length r - (i + 1)) (drop (i + 1) r) ≡ drop (suc i) r = take_all (length r - (i + 1)) (drop (i + 1) r) (rw length-drop (omega arith)) ∙ rw add-one in
+          going_more g (rw m (rw e at (first-piece [] r (ltb-true n (length r) q)))) y
+      go false q k = let z : ◌≡◌ {A = ℕ} 0 1 = cc in absurd (omega arith)
 
-module _ {s : List ℕ} {o a : Held} {at e : ℕ} (r : Erring s o a at e) (h : length s ≤ e) where
-  pub erring-last : {b : Held} → at < length s → Says (text (take (length s - at) (drop at s)) ∷ []) a b → Says (error_items [] s) o b
-  erring-last l y =
-      let n : length s ≡ e = omega (arith, r.piece) in
-      let u = take (e - at) (drop at s) in
-      let d : drop e s ≡ [] = drop_of_length-le s h in
-      let g : error_items [] (drop at s) ≡ text u ∷ [] = ap (error_items []) (piece-split r.piece) ∙ pieces-plain [] u (drop e s) r.piece.plain ∙ ap (error_items u) d ∙ pieces_end u (rw (length-take-le (e - at) (drop at s) (rw length-drop (omega arith))) (omega arith)) in
-      r.going.rest (same (sym g) (rw n at y))
+  pub pieces-last : {b : Output} → None ≡ position is_cut r → (length r ≡ 0 → ⊥) → Says (text r ∷ []) a b → Says xs o b
+  pieces-last f h y = g.rest (same (sym (uncut r f ∙ pieces_end r (omega (arith, h)))) y)
 
-  pub erring-all : length s ≤ at → Says (error_items [] s) o a
+  pub pieces-all : length r ≡ 0 → Says xs o a
   unfolding error_items
-  erring-all l = going-all r.going (rw (drop_of_length-le s l))
+  pieces-all h = going-all g (rw (empty r h))
 
 -- TABS
 
--- The tabs before i are printed.
-pub record Tabbing (doc : Bool) (l : List ℕ) (o a : Held) (i : ℕ) : Type 0 where
-  pub upto : i ≤ length l
-  pub going : Going (tabbed doc l) (tabbed doc (drop i l)) o a
+tabbed-tab : (doc : Bool) (r : List ℕ) → 1 ≤ length r → get_or r 0 0 ≡ 9 → tabbed doc r ≡ cond doc (text (ascii "    ")) tab ∷ tabbed doc (take (length r - 1) (drop 1 r))
+unfolding tabbed
+tabbed-tab doc [] h e = absurd (omega arith)
+tabbed-tab doc (b ∷ r) h e = rw (e, take_all (length (b ∷ r) - 1) r (omega arith))
 
-pub tabbing_none : (doc : Bool) (l : List ℕ) (o : Held) → Tabbing doc l o o 0
-tabbing_none doc l o = record { upto = omega arith; going = going-none (tabbed doc l) o }
+tabbed-stop : (doc : Bool) (r : List ℕ) → (1 ≤ length r → get_or r 0 0 ≡ 9 → ⊥) → text r ∷ [] ≡ tabbed doc r
+unfolding tabbed
+tabbed-stop doc [] f = refl
+tabbed-stop doc (b ∷ r) f = rw (ne_eqb b 9 (f (omega arith)))
 
-module _ {doc : Bool} {l : List ℕ} {o a b : Held} {i : ℕ} (t : Tabbing doc l o a i) where
-  pub tabbing-more : i < length l → get_or l i 0 ≡ 9 → Says (cond doc (text (ascii "    ")) tab ∷ []) a b → Tabbing doc l o b (i + 1)
-  unfolding tabbed
-  tabbing-more h e y = record { upto = omega arith; going = going_more t.going (rw (add-one i, drop-cons l i 0 h, eq-eqb (get_or l i 0) 9 e)) y }
+-- The tabs before r are printed, and a tab stands first in it, or does not.
+module _ (doc : Bool) {xs : List Item} {o a b : Output} (r : List ℕ) (g : Going xs (tabbed doc r) o a) where
+  pub tabs_more : 1 ≤ length r → get_or r 0 0 ≡ 9 → Says (cond doc (text (ascii "    ")) tab ∷ []) a b → Going xs (tabbed doc (take (length r - 1) (drop 1 r))) o b
+  tabs_more h e y = going_more g (tabbed-tab doc r h e) y
 
-  pub tabbing-stop : i < length l → (get_or l i 0 ≡ 9 → ⊥) → Says (text (take (length l - i) (drop i l)) ∷ []) a b → Says (tabbed doc l) o b
-  unfolding tabbed
-  tabbing-stop h e y =
-      let n = take_all (length l - i) (drop i l) (rw length-drop (omega arith)) in
-      t.going.rest (same (rw (drop-cons l i 0 h, ne_eqb (get_or l i 0) 9 e)) (texts n y))
+  pub tabs-none : length r < 1 → Says (text r ∷ []) a b → Says xs o b
+  tabs-none h y = g.rest (same (tabbed-stop doc r (λ k. absurd (omega (arith, h, k)))) y)
 
-  pub tabbing-all : length l ≤ i → Says (text (take (length l - i) (drop i l)) ∷ []) a b → Says (tabbed doc l) o b
-  unfolding tabbed
-  tabbing-all h y =
-      let n = take_all (length l - i) (drop i l) (rw length-drop (omega arith)) in
-      t.going.rest (same (rw (drop_of_length-le l h)) (texts n y))
+  pub tabs-stop : 1 ≤ length r → (get_or r 0 0 ≡ 9 → ⊥) → Says (text r ∷ []) a b → Says xs o b
+  tabs-stop h e y = g.rest (same (tabbed-stop doc r (λ k. e)) y)
 
 -- LINES
 
@@ -153,19 +176,16 @@ abbrev pub shown : Bool → ℕ → List (List ℕ) → List Item
 shown doc n ls = flatten (map (one_line doc) (map (drop n) ls))
 
 -- The lines before j are printed.
-pub record Showing (doc : Bool) (n : ℕ) (s : List ℕ) (i : ℕ) (o a : Held) (j : ℕ) : Type 0 where
+pub record Showing (doc : Bool) (n : ℕ) (s : List ℕ) (i : ℕ) (o a : Output) (j : ℕ) : Type 0 where
   pub going : Going (shown doc n (rows s i)) (shown doc n (rows s j)) o a
 
-pub showing_none : (doc : Bool) (n : ℕ) (s : List ℕ) (i j : ℕ) (o : Held) → j ≡ i → Showing doc n s i o o j
-showing_none doc n s i j o e = record { going = rw e (going-none (shown doc n (rows s i)) o) }
-
-pub showing_more : {doc : Bool} {n : ℕ} {s : List ℕ} {i : ℕ} {o a b : Held} {j : ℕ} (l m : List ℕ) (k : ℕ) → Showing doc n s i o a j → j ≤ length s
+pub showing_more : {doc : Bool} {n : ℕ} {s : List ℕ} {i : ℕ} {o a b : Output} {j : ℕ} (l m : List ℕ) (k : ℕ) → Showing doc n s i o a j → j ≤ length s
     → l ≡ first_or [] (rows s j) → m ≡ drop n l → Says (one_line doc m) a b → k ≡ suc (line_end s j) → Showing doc n s i o b k
 unfolding flatten
 showing_more {doc} {n} {s} {i} {o} {a} {b} {j} l m k w h e d y q =
     record { going = going_more w.going (rw (row_step s l j k h e q)) (same (ap (one_line doc) d) y) }
 
-pub showing_all : {doc : Bool} {n : ℕ} {s : List ℕ} {i : ℕ} {o a : Held} {j : ℕ} → Showing doc n s i o a j → length s < j → Says (shown doc n (rows s i)) o a
+pub showing_all : {doc : Bool} {n : ℕ} {s : List ℕ} {i : ℕ} {o a : Output} {j : ℕ} → Showing doc n s i o a j → length s < j → Says (shown doc n (rows s i)) o a
 unfolding flatten
 showing_all {s} {j} w h = going-all w.going (rw (rows_none s j h))
 
@@ -198,10 +218,6 @@ unfolding flatten
 beside-more doc s l m j k n e q h f p d =
     let two : rows s 0 ≡ l ∷ m ∷ rows s k = row_step s l 0 j (omega arith) e q ∙ ap (λ (ls : List (List ℕ)). l ∷ ls) (row_step s m j k h f p) in
     rw (d, two, row_step s m j k h f p, two_unpadded l m (rows s k))
-
--- the lines by where the first begins
-pub begun : (doc t u : Bool) (s : List ℕ) {o a : Held} → t ≡ u → Says (flatten (map (one_line doc) (unpadded u (rows s 0)))) o a → Says (flatten (map (one_line doc) (unpadded t (rows s 0)))) o a
-begun doc t u s e h = rw e h
 
 -- BLOCKS
 
@@ -290,16 +306,6 @@ block-some doc now (l ∷ ls) loc h = go (is_nil ls && not doc) loc
     go true item_inline = refl
     go true end_of_items = refl
     go false loc = refl
-
-empty : (t : List ℕ) → length t ≡ 0 → t ≡ []
-empty [] h = refl
-empty (b ∷ t) h = absurd (omega arith)
-
-pub star_yes : (doc : Bool) (r s : List ℕ) → doc ≡ true → r ≡ drop 1 s → r ≡ cond doc (drop 1 s) s
-star_yes doc r s d e = rw d e
-
-pub star_no : (doc : Bool) (s : List ℕ) → doc ≡ false → s ≡ cond doc (drop 1 s) s
-star_no doc s d = rw d
 
 -- from what the code reads of a multi-line comment: what stands inside, whether it is a doc comment, and the rest b
 module _ (s body b : List ℕ) (doc : Bool) (loc : Location) (h : body ≡ take (length s - 4) (drop 2 s)) (d : doc ≡ starts_with (ascii "*") body) (c : b ≡ cond doc (drop 1 body) body) where

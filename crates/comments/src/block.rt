@@ -10,212 +10,148 @@ ghost use Rattle.comments.specs.Place.{place};
 ghost use Rattle.comments.specs.Rows.{rows};
 
 use crate::CommentLocation;
-use crate::plain::{print_end, print_lead};
-use crate::rows::{behind, common_length, first_row, next_row, row};
-use items::{Printed, Signal};
+use crate::plain::{print_end, print_if, print_lead};
+use crate::rows::{common_length, first_row, next_row, row};
+use items::{Output, Signal};
+use text::behind;
 
 const TAB: u8 = 9;
 
-// A text of a doc comment.
-fn print_doc(records: &mut [u32], texts: &mut [u8], doc: bool, s: &[u8], p: Printed) -> Printed
-    ensures { SaysIn records texts p result (optional doc (text s.now)) }
-{
-    if doc {
-        items::print_text(records, texts, s, p)
-    } else {
-        p
-    }
-}
-
 // A tab that a line begins with: four spaces in a doc comment.
-fn print_tab(records: &mut [u32], texts: &mut [u8], doc: bool, p: Printed) -> Printed
-    ensures { SaysIn records texts p result (cond doc (text (ascii "    ")) tab ∷ []) }
+fn print_tab(out: &mut Output, doc: bool)
+    ensures { SaysIn out (cond doc (text (ascii "    ")) tab ∷ []) }
 {
     if doc {
-        items::print_text(records, texts, b"    ", p)
+        out.print_text(b"    ");
     } else {
-        items::print_signal(records, texts, Signal::Tab, p)
+        out.print_signal(Signal::Tab);
     }
 }
 
 // The tabs that a line begins with, and its text.
-fn print_tabbed(records: &mut [u32], texts: &mut [u8], doc: bool, l: &[u8], p: Printed) -> Printed
-    ensures { SaysIn records texts p result (tabbed doc l.now) }
+fn print_tabbed(out: &mut Output, doc: bool, l: &[u8])
+    ensures { SaysIn out (tabbed doc l.now) }
 {
-    let mut q = p;
-    let mut i = 0;
-    while i < l.len() {
-        if l[i] != TAB {
-            return items::print_text(records, texts, &l[i..], q);
-        }
-        q = print_tab(records, texts, doc, q);
-        i += 1;
+    let mut rest = l;
+    while let [TAB, behind @ ..] = rest {
+        print_tab(out, doc);
+        rest = behind;
     }
-    items::print_text(records, texts, &l[i..], q)
+    out.print_text(rest);
 }
 
 // A line of a comment over many lines.
-fn print_row(records: &mut [u32], texts: &mut [u8], doc: bool, l: &[u8], p: Printed) -> Printed
-    ensures { SaysIn records texts p result (one_line doc l.now) }
+fn print_row(out: &mut Output, doc: bool, l: &[u8])
+    ensures { SaysIn out (one_line doc l.now) }
 {
-    let a = print_doc(records, texts, doc, b" *", p);
+    print_if(out, doc, b" *");
     if l.len() == 0 {
-        return items::print_signal(records, texts, Signal::NewLine, a);
+        out.print_signal(Signal::NewLine);
+        return;
     }
-    let b = print_doc(records, texts, doc, b" ", a);
-    let c = print_tabbed(records, texts, doc, l, b);
-    items::print_signal(records, texts, Signal::NewLine, c)
+    print_if(out, doc, b" ");
+    print_tabbed(out, doc, l);
+    out.print_signal(Signal::NewLine);
 }
 
 // The lines from `i` on, each without its first n bytes.
-fn print_rows(
-    records: &mut [u32],
-    texts: &mut [u8],
-    doc: bool,
-    s: &[u8],
-    i: usize,
-    n: usize,
-    p: Printed,
-) -> Printed
-    ensures { SaysIn records texts p result (flatten (map (one_line doc) (map (drop n) (rows s.now i)))) }
+fn print_rows(out: &mut Output, doc: bool, s: &[u8], i: usize, n: usize)
+    ensures { SaysIn out (flatten (map (one_line doc) (map (drop n) (rows s.now i)))) }
 {
-    let mut q = p;
     let mut j = i;
     while j <= s.len() {
         let next = next_row(s, j);
-        q = print_row(records, texts, doc, behind(row(s, j, next), n), q);
+        print_row(out, doc, behind(row(s, j, next), n));
         j = next;
     }
-    q
 }
 
 // The lines of a comment that does not begin beside its opening, without their common padding.
-fn print_below(
-    records: &mut [u32],
-    texts: &mut [u8],
-    doc: bool,
-    s: &[u8],
-    second: usize,
-    p: Printed,
-) -> Printed
+fn print_below(out: &mut Output, doc: bool, s: &[u8], second: usize)
     requires { second ≡ suc (line_end s.now 0) }
-    ensures { SaysIn records texts p result (flatten (map (one_line doc) (unpadded false (rows s.now 0)))) }
+    ensures { SaysIn out (flatten (map (one_line doc) (unpadded false (rows s.now 0)))) }
 {
     let n = common_length(s, row(s, 0, second), second);
-    print_rows(records, texts, doc, s, 0, n, p)
+    print_rows(out, doc, s, 0, n);
 }
 
 // The lines of a comment that begins beside its opening: the first as it is, the others without their common padding.
-fn print_beside(
-    records: &mut [u32],
-    texts: &mut [u8],
-    doc: bool,
-    s: &[u8],
-    second: usize,
-    p: Printed,
-) -> Printed
+fn print_beside(out: &mut Output, doc: bool, s: &[u8], second: usize)
     requires { second ≡ suc (line_end s.now 0) }
-    ensures { SaysIn records texts p result (flatten (map (one_line doc) (unpadded true (rows s.now 0)))) }
+    ensures { SaysIn out (flatten (map (one_line doc) (unpadded true (rows s.now 0)))) }
 {
-    let a = print_row(records, texts, doc, row(s, 0, second), p);
+    print_row(out, doc, row(s, 0, second));
     if s.len() < second {
-        return a;
+        return;
     }
     let third = next_row(s, second);
     let n = common_length(s, row(s, second, third), third);
-    print_rows(records, texts, doc, s, second, n, a)
+    print_rows(out, doc, s, second, n);
 }
 
 // A comment over many lines, or a doc comment, with its second line at `second`.
-fn print_many(
-    records: &mut [u32],
-    texts: &mut [u8],
-    doc: bool,
-    immediate: bool,
-    s: &[u8],
-    second: usize,
-    p: Printed,
-) -> Printed
+fn print_many(out: &mut Output, doc: bool, immediate: bool, s: &[u8], second: usize)
     requires { second ≡ suc (line_end s.now 0) }
-    ensures { SaysIn records texts p result (many_lines doc (unpadded immediate (rows s.now 0))) }
+    ensures { SaysIn out (many_lines doc (unpadded immediate (rows s.now 0))) }
 {
-    let a = items::print_text(records, texts, b"/*", p);
-    let b = print_doc(records, texts, doc, b"*", a);
-    let c = items::print_signal(records, texts, Signal::NewLine, b);
-    let d = print_between(records, texts, doc, immediate, s, second, c);
-    let e = print_doc(records, texts, doc, b" ", d);
-    let f = items::print_text(records, texts, b"*/", e);
-    items::print_signal(records, texts, Signal::NewLine, f)
+    out.print_text(b"/*");
+    print_if(out, doc, b"*");
+    out.print_signal(Signal::NewLine);
+    print_between(out, doc, immediate, s, second);
+    print_if(out, doc, b" ");
+    out.print_text(b"*/");
+    out.print_signal(Signal::NewLine);
 }
 
-fn print_between(
-    records: &mut [u32],
-    texts: &mut [u8],
-    doc: bool,
-    immediate: bool,
-    s: &[u8],
-    second: usize,
-    p: Printed,
-) -> Printed
+fn print_between(out: &mut Output, doc: bool, immediate: bool, s: &[u8], second: usize)
     requires { second ≡ suc (line_end s.now 0) }
-    ensures { SaysIn records texts p result (flatten (map (one_line doc) (unpadded immediate (rows s.now 0)))) }
+    ensures { SaysIn out (flatten (map (one_line doc) (unpadded immediate (rows s.now 0)))) }
 {
     if immediate {
-        print_beside(records, texts, doc, s, second, p)
+        print_beside(out, doc, s, second);
     } else {
-        print_below(records, texts, doc, s, second, p)
+        print_below(out, doc, s, second);
     }
 }
 
 // A comment on one line.
-fn print_one(
-    records: &mut [u32],
-    texts: &mut [u8],
-    s: &[u8],
-    loc: CommentLocation,
-    p: Printed,
-) -> Printed
-    ensures { SaysIn records texts p result (on_one_line s.now (place loc)) }
+fn print_one(out: &mut Output, s: &[u8], loc: CommentLocation)
+    ensures { SaysIn out (on_one_line s.now (place loc)) }
 {
-    let a = print_lead(records, texts, loc, p);
-    let b = items::print_text(records, texts, b"/* ", a);
-    let c = items::print_text(records, texts, text::trim(s), b);
-    let d = items::print_text(records, texts, b" */", c);
-    print_end(records, texts, loc, d)
+    print_lead(out, loc);
+    out.print_text(b"/* ");
+    out.print_text(text::trim(s));
+    out.print_text(b" */");
+    print_end(out, loc);
 }
 
 // A comment with these lines, of which the first and the last are not empty and the second begins at `second`.
 fn print_block(
-    records: &mut [u32],
-    texts: &mut [u8],
+    out: &mut Output,
     doc: bool,
     immediate: bool,
     s: &[u8],
     second: usize,
     loc: CommentLocation,
-    p: Printed,
-) -> Printed
+)
     requires { second ≡ suc (line_end s.now 0) }
-    ensures { SaysIn records texts p result (block_of doc immediate (rows s.now 0) (place loc)) }
+    ensures { SaysIn out (block_of doc immediate (rows s.now 0) (place loc)) }
 {
-    if doc {
-        return print_many(records, texts, doc, immediate, s, second, p);
+    if !doc && s.len() < second {
+        print_one(out, row(s, 0, second), loc);
+    } else {
+        print_many(out, doc, immediate, s, second);
     }
-    if s.len() < second {
-        return print_one(records, texts, row(s, 0, second), loc, p);
-    }
-    print_many(records, texts, doc, immediate, s, second, p)
 }
 
 // What stands between the opening and the end of a comment.
 fn inside(s: &[u8]) -> &[u8]
     ensures { result.now ≡ take (length s.now - 4) (drop 2 s.now) }
 {
-    if s.len() < 4 {
-        return &s[..0];
+    match s {
+        [_, _, body @ .., _, _] => body,
+        _ => &[],
     }
-    let end = s.len() - 2;
-    &s[2..end]
 }
 
 // What stands behind the further star of a doc comment.
@@ -225,34 +161,19 @@ fn after_star(doc: bool, s: &[u8]) -> &[u8]
     if doc { behind(s, 1) } else { s }
 }
 
-pub fn print_multi_line(
-    records: &mut [u32],
-    texts: &mut [u8],
-    s: &[u8],
-    loc: CommentLocation,
-    p: Printed,
-) -> Printed
-    ensures { SaysIn records texts p result (multi_line s.now (place loc)) }
+pub fn print_multi_line(out: &mut Output, s: &[u8], loc: CommentLocation)
+    ensures { SaysIn out (multi_line s.now (place loc)) }
 {
     let body = inside(s);
     let doc = text::starts_with(body, b"*");
     let rest = text::trim_end(after_star(doc, body));
     if rest.len() == 0 {
-        return p;
+        return;
     }
     let first = first_row(rest);
     let start = first.start;
     let second = first.next - start;
-    print_block(
-        records,
-        texts,
-        doc,
-        start == 0,
-        behind(rest, start),
-        second,
-        loc,
-        p,
-    )
+    print_block(out, doc, start == 0, behind(rest, start), second, loc);
 }
 
 // Whether a multi-line comment has no text, and so prints nothing.

@@ -11,7 +11,7 @@ ghost use Rattle.items.specs.Machine.{SaysIn};
 ghost use Rattle.comments.specs.Comments.{Location, inline, comment};
 ghost use Rattle.comments.specs.Place.{place};
 
-use items::Printed;
+use items::Output;
 use numbers::kind;
 
 // Where a comment stands.
@@ -28,32 +28,21 @@ pub enum CommentLocation {
 fn is_inline(loc: CommentLocation) -> bool
     ensures { result ≡ inline (place loc) }
 {
-    match loc {
-        CommentLocation::AboveItem => false,
-        CommentLocation::ItemInline => true,
-        CommentLocation::EndOfItems => false,
-    }
+    matches!(loc, CommentLocation::ItemInline)
 }
 
 // Prints a trivia token, or a custom error, which is any other kind, given its kind and its text.
-pub fn format_comment(
-    records: &mut [u32],
-    texts: &mut [u8],
-    kind: u32,
-    s: &[u8],
-    loc: CommentLocation,
-    p: Printed,
-) -> Printed
-    ensures { SaysIn records texts p result (comment kind s.now (place loc)) }
+pub fn format_comment(out: &mut Output, kind: u32, s: &[u8], loc: CommentLocation)
+    ensures { SaysIn out (comment kind s.now (place loc)) }
 {
     match kind {
-        kind::WHITESPACE => p,
-        kind::MULTI_LINE_COMMENT => block::print_multi_line(records, texts, s, loc, p),
-        kind::ERROR_COMMENT_TOO_SHORT => items::print_text(records, texts, b"/*/", p),
-        kind::ERROR_COMMENT_UNTERMINATED => items::print_text(records, texts, s, p),
-        kind::SINGLE_LINE_HASH_COMMENT => plain::print_hash(records, texts, s, loc, p),
-        kind::SINGLE_LINE_SLASH_COMMENT => plain::print_slash(records, texts, s, loc, p),
-        _ => plain::print_error(records, texts, s, p),
+        kind::WHITESPACE => {}
+        kind::MULTI_LINE_COMMENT => block::print_multi_line(out, s, loc),
+        kind::ERROR_COMMENT_TOO_SHORT => out.print_text(b"/*/"),
+        kind::ERROR_COMMENT_UNTERMINATED => out.print_text(s),
+        kind::SINGLE_LINE_HASH_COMMENT => plain::print_hash(out, s, loc),
+        kind::SINGLE_LINE_SLASH_COMMENT => plain::print_slash(out, s, loc),
+        _ => plain::print_error(out, s),
     }
 }
 

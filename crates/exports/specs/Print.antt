@@ -3,14 +3,7 @@ use Rattle.std.specs.Prelude.{◌≡◌, List, [], ◌∷◌, ℕ}
 use Rattle.std.proofs.Math.Option.{Option, none, some}
 use Rattle.numbers.specs.declared.mode.Mode.{Mode}
 use Rattle.formatter.specs.Answer.{Answer, refused, done}
-use Rattle.exports.specs.declared.print.Chosen.{Chosen}
-use Rattle.exports.specs.declared.print.Chosen.TheVariants.{Known, Unknown}
 use Rattle.exports.specs.declared.print.Report.{Report}
-
--- the mode that the code has found by its number, if any
-abbrev pub chosen : Chosen → Option Mode
-chosen (Known m) = some m
-chosen Unknown = none
 
 -- what a call in a mode gives, or x where its number is that of no mode
 unfoldable pub by_mode : {A : Type 0} → Option Mode → A → (Mode → A) → A

@@ -11,11 +11,11 @@ ghost use Rattle.exports.specs.Comment.{location, comment_in, records_of, texts_
 ghost use Rattle.exports.specs.Refusal.{number, first_value, second_value, both_values};
 
 use comments::CommentLocation;
-use items::{Printed, no_size};
-use numbers::refusal::number_of;
-use tree::Tested;
+use items::{Output, Size, no_size};
+use numbers::refusal::Refusal;
+use tree::Accepted;
 
-// The numbers of the places; any other number is the last of them, after all items.
+// The numbers of the places, for C; any other number is the last of them, after all items.
 const ABOVE_ITEM: u32 = 0;
 
 const ITEM_INLINE: u32 = 1;
@@ -38,19 +38,19 @@ fn location_of(n: u32) -> CommentLocation
 }
 
 // Writes the four counts of a comment, which has no run and no mark, and gives the answer.
-fn tell(counts: &mut [u32; 4], p: Printed) -> u32
+fn tell(counts: &mut [u32; 4], p: Option<Size>) -> u32
     ensures value { result ≡ code p }
     ensures counts_after { counts.new ≡ counts_after counts.old p }
 {
     match p {
-        Printed::Done(d) => {
+        Some(d) => {
             counts[0] = d.records;
             counts[1] = d.texts;
             counts[2] = 0;
             counts[3] = 0;
             DONE
         }
-        Printed::Full => FULL,
+        None => FULL,
     }
 }
 
@@ -69,26 +69,24 @@ pub fn tungvesk_comment(
     ensures texts_after { texts.new ≡ texts_of (comment_in records texts kind s at) }
 {
     let loc = location_of(at);
-    let none = Printed::Done(no_size(false));
-    let p = comments::format_comment(records, texts, kind, s, loc, none);
-    tell(counts, p)
+    let mut out = Output::new(records, texts, Some(no_size(false)));
+    comments::format_comment(&mut out, kind, s, loc);
+    tell(counts, out.size())
 }
 
 // A refusal of document 01 with its element and 0, or 0 with N and B.
 #[derive(Clone, Copy)]
 struct Verdict(u32, u32, u32);
 
-fn say(t: Tested) -> Verdict
+#[tactic(auto, unfolding(crate::specs::Refusal::number, crate::specs::Refusal::first_value, crate::specs::Refusal::second_value))]
+fn say(t: Result<Accepted, Refusal>) -> Verdict
     ensures result_value { result.0 ≡ number (said t) }
     ensures result_value_2 { result.1 ≡ first_value (said t) }
     ensures result_value_3 { result.2 ≡ second_value (said t) }
 {
     match t {
-        Tested::Refused(r) => {
-            let reason = r.reason;
-            Verdict(number_of(reason), r.element.0, 0)
-        }
-        Tested::Accepted { elements, bytes } => Verdict(0, elements, bytes),
+        Err(r) => Verdict(u32::from(r.reason), r.element.0, 0),
+        Ok(a) => Verdict(0, a.elements, a.bytes),
     }
 }
 

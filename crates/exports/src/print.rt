@@ -5,32 +5,15 @@ ghost use Rattle.std.proofs.lemmas.List.Edits.{sets};
 ghost use Rattle.formatter.specs.Calls.{answer_in, records_in, texts_in, listing_in, listed};
 ghost use Rattle.formatter.specs.Reply.{refused_for, reply, reply_listed};
 ghost use Rattle.numbers.specs.Mode.{mode_of};
-ghost use Rattle.exports.specs.Print.{chosen, by_mode, unknown_mode, number, values, values_listed, Reports};
+ghost use Rattle.exports.specs.Print.{by_mode, unknown_mode, number, values, values_listed, Reports};
 
-use formatter::{Answer, ListAnswer};
+use formatter::Listed;
 use items::Count;
-use numbers::mode::{KEEPING, Mode, PLAIN};
-use numbers::refusal::{Refusal, number_of};
+use numbers::mode::Mode;
+use numbers::refusal::Refusal;
 
 // The answer to a number that no mode has; no refusal has this one.
 const UNKNOWN_MODE: u32 = 254;
-
-// The mode with a number, or that no mode has it.
-#[derive(Clone, Copy)]
-enum Chosen {
-    Known(Mode),
-    Unknown,
-}
-
-fn mode_with(n: u32) -> Chosen
-    ensures { chosen result ≡ mode_of n }
-{
-    match n {
-        PLAIN => Chosen::Known(Mode::Plain),
-        KEEPING => Chosen::Known(Mode::Keeping),
-        _ => Chosen::Unknown,
-    }
-}
 
 // A refusal of document 01 with its element, or 0 with the counts and the bytes of the listing.
 #[derive(Clone, Copy)]
@@ -47,7 +30,7 @@ fn refused(f: Refusal) -> Report
 {
     let reason = f.reason;
     Report {
-        number: number_of(reason),
+        number: u32::from(reason),
         counts: Count {
             records: 0,
             texts: 0,
@@ -60,32 +43,32 @@ fn refused(f: Refusal) -> Report
 }
 
 // What a printing answers.
-fn report_of(a: Answer) -> Report
+fn report_of(a: Result<Count, Refusal>) -> Report
     ensures { Reports result (reply a) }
 {
     match a {
-        Answer::Refused(f) => refused(f),
-        Answer::Printed(c) => Report {
+        Ok(counts) => Report {
             number: 0,
-            counts: c,
+            counts,
             bytes: 0,
             element: 0,
         },
+        Err(f) => refused(f),
     }
 }
 
 // What a printing with its listing answers.
-fn report_listed(a: ListAnswer) -> Report
+fn report_listed(a: Result<Listed, Refusal>) -> Report
     ensures { Reports result (reply_listed a) }
 {
     match a {
-        ListAnswer::Refused(f) => refused(f),
-        ListAnswer::Listed { counts, bytes } => Report {
+        Ok(listed) => Report {
             number: 0,
-            counts,
-            bytes,
+            counts: listed.counts,
+            bytes: listed.bytes,
             element: 0,
         },
+        Err(f) => refused(f),
     }
 }
 
@@ -103,8 +86,7 @@ pub fn tungvesk_print(
     ensures records_after { records.new ≡ by_mode (mode_of mode) records.old (λ m. records_in image m records texts none) }
     ensures texts_after { texts.new ≡ by_mode (mode_of mode) texts.old (λ m. texts_in image m records texts none) }
 {
-    let chosen = mode_with(mode);
-    let Chosen::Known(m) = chosen else {
+    let Ok(m) = Mode::try_from(mode) else {
         return UNKNOWN_MODE;
     };
     let r = report_of(formatter::print_items(image, m, records, texts));
@@ -131,8 +113,7 @@ pub fn tungvesk_list(
     ensures texts_after { texts.new ≡ by_mode (mode_of mode) texts.old (λ m. texts_in image m records texts (listed listing)) }
     ensures listing_after { listing.new ≡ by_mode (mode_of mode) listing.old (λ m. listing_in image m records texts listing) }
 {
-    let chosen = mode_with(mode);
-    let Chosen::Known(m) = chosen else {
+    let Ok(m) = Mode::try_from(mode) else {
         return UNKNOWN_MODE;
     };
     let l = report_listed(formatter::list_items(image, m, records, texts, listing));

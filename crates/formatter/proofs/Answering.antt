@@ -15,7 +15,7 @@ use Rattle.items.specs.Records.{words, bytes, counts_of, overlaid, record_size}
 use Rattle.items.proofs.Decoding.{decoded_is, words-length}
 use Rattle.tree.specs.Tree.{tree_of}
 use Rattle.tree.specs.Refusal.{Refusal, refusal}
-use Rattle.tree.proofs.Accepted.{Accepted, accepted}
+use Rattle.tree.proofs.Passing.{Accepted, accepted}
 use Rattle.listing.specs.Listing.{listing}
 use Rattle.printer.specs.Print.{source_file}
 use Rattle.items.specs.declared.Count.{Count}

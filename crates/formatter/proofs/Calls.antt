@@ -21,28 +21,29 @@ use Rattle.items.proofs.Decoding.{decoded_is, words-length}
 use Rattle.items.proofs.Fits.{Fits, fits-start, store-overlaid}
 use Rattle.numbers.specs.Refusal.{number_of}
 use Rattle.numbers.specs.declared.refusal.Reason.{Reason}
+use Rattle.numbers.specs.declared.refusal.Refusal as numbers
 use Rattle.numbers.specs.declared.refusal.Reason.TheVariants.{RecordsTooShort, TextsTooShort, ListingTooShort}
 use Rattle.tree.specs.Tree.{count_n, count_b, tree_of}
 use Rattle.tree.specs.Refusal.{Refusal, refusal}
 use Rattle.tree.specs.Answer as tree
-use Rattle.tree.specs.declared.Tested.{Tested}
-use Rattle.tree.proofs.Accepted.{accepted}
+use Rattle.numbers.specs.declared.refusal.Refusal as numbers
+use Rattle.tree.specs.declared.Accepted as tested
+use Rattle.tree.proofs.Passing.{accepted}
 use Rattle.listing.specs.Listing.{head_line, listing}
 use Rattle.listing.specs.Writes.{page, Writes}
 use Rattle.listing.specs.Listable.{Listable, items_in}
 use Rattle.listing.proofs.Listable.{items_are, listable}
 use Rattle.items.specs.declared.Count.{Count}
-use Rattle.formatter.specs.declared.serve.Plan.{Plan}
-use Rattle.formatter.specs.declared.serve.Attempt.{Attempt}
-use Rattle.formatter.specs.declared.serve.Attempt.TheVariants.{Answered as Replied, Full}
-use Rattle.formatter.specs.declared.serve.Room.{Room}
-use Rattle.formatter.specs.declared.serve.Room.TheVariants.{Enough, Short}
+use Rattle.plan.specs.declared.Plan.{Plan}
 use Rattle.formatter.specs.Answer.{Verdict, turned_away, printed, from_printing, from_tests, verdict, with_room, with_listing, ruling, Answer, refused, done, answer_of, answer, buffer_of, records_after, texts_after, listing_after}
 use Rattle.formatter.specs.Answered.{Answered}
-use Rattle.formatter.specs.declared.ListAnswer.{ListAnswer}
-use Rattle.formatter.specs.declared.ListAnswer.TheVariants.{Listed, Refused as Unlisted}
-use Rattle.formatter.specs.Reply.{reply_listed, reply_to}
-use Rattle.formatter.specs.Calls.{asked, Served, Attempted, most_records, Sized, Ready, planned_at, Whole, Halts, counts_with, ample, shortage}
+use Rattle.std.specs.declared.option.Option as std
+use Rattle.std.specs.declared.option.Option.TheVariants.{Some, None}
+use Rattle.std.specs.declared.result.Result.{Result}
+use Rattle.std.specs.declared.result.Result.TheVariants.{Ok, Err}
+use Rattle.std.specs.Prelude.{is_some, IsErrAnd}
+use Rattle.formatter.specs.Reply.{ListAnswer, reply, reply_listed, reply_to}
+use Rattle.formatter.specs.Calls.{asked, Served, Attempted, most_records, Ready, planned_at, Whole, Halts, counts_with, ample, shortage}
 use Rattle.formatter.proofs.Counted.{records-bound, texts-bound}
 use Rattle.formatter.proofs.Fitted.{one-mark, sum_le, items-fit}
 use Rattle.formatter.proofs.Agree.{agree}
@@ -64,7 +65,7 @@ module _ (m : Mode) (image rs ts ls : List ℕ) where
   away false n e h = turned false n e (rw h)
 
   -- the tests 1 to 9
-  pub refused-by : (listed : Bool) {t u : Tested} {f : Refusal} → t ≡ u → tree.said u ≡ tree.refused f → tree.said t ≡ tree.answer image → Served m image rs ts ls listed rs ts ls (refused f.number f.element)
+  pub refused-by : (listed : Bool) {t u : Result tested.Accepted numbers.Refusal} {f : Refusal} → t ≡ u → tree.said u ≡ tree.refused f → tree.said t ≡ tree.answer image → Served m image rs ts ls listed rs ts ls (refused f.number f.element)
   unfolding tree.answer verdict from_tests
   refused-by listed {t} {u} {f} i j h = go (refusal image) refl (sym j ∙ ap tree.said (sym i) ∙ h)
     where
@@ -80,12 +81,12 @@ module _ (m : Mode) (image rs ts ls : List ℕ) where
 -- ---- room
 
 -- what a lack of room leaves of items
-abbrev left : List Item → Room → Verdict
-left xs Enough = printed xs
-left xs (Short r) = turned_away (number_of r) 0
+abbrev left : List Item → Result (Unit {0}) Reason → Verdict
+left xs (Ok x) = printed xs
+left xs (Err r) = turned_away (number_of r) 0
 
 module _ (m : Mode) (image rs ts ls : List ℕ) (xs : List Item) (v : verdict m image ≡ printed xs) where
-  abbrev short : Bool → Room
+  abbrev short : Bool → Result (Unit {0}) Reason
   short listed = shortage (counts_of xs) (length (listing xs)) (length rs) (length ts) (length ls) listed
 
   -- the tests 11 to 13 say what the shortage is
@@ -93,18 +94,18 @@ module _ (m : Mode) (image rs ts ls : List ℕ) (xs : List Item) (v : verdict m 
   unfolding ruling with_room with_listing shortage
   rules true = rw v (go (ltb (length rs) (record_size * length xs)) (ltb (length ts) (length (bytes xs))))
     where
-      last : (d : Bool) → cond d (turned_away 13 0) (printed xs) ≡ left xs (cond d (Short ListingTooShort) Enough)
+      last : (d : Bool) → cond d (turned_away 13 0) (printed xs) ≡ left xs (cond d (Err ListingTooShort) (Ok (tt {0})))
       last true = refl
       last false = refl
 
       go : (a b : Bool) → with_listing (some ls) (cond a (turned_away 11 0) (cond b (turned_away 12 0) (printed xs)))
-          ≡ left xs (cond a (Short RecordsTooShort) (cond b (Short TextsTooShort) (cond (ltb (length ls) (length (listing xs))) (Short ListingTooShort) Enough)))
+          ≡ left xs (cond a (Err RecordsTooShort) (cond b (Err TextsTooShort) (cond (ltb (length ls) (length (listing xs))) (Err ListingTooShort) (Ok (tt {0})))))
       go true b = refl
       go false true = refl
       go false false = last (ltb (length ls) (length (listing xs)))
   rules false = rw v (go (ltb (length rs) (record_size * length xs)) (ltb (length ts) (length (bytes xs))))
     where
-      go : (a b : Bool) → cond a (turned_away 11 0) (cond b (turned_away 12 0) (printed xs)) ≡ left xs (cond a (Short RecordsTooShort) (cond b (Short TextsTooShort) Enough))
+      go : (a b : Bool) → cond a (turned_away 11 0) (cond b (turned_away 12 0) (printed xs)) ≡ left xs (cond a (Err RecordsTooShort) (cond b (Err TextsTooShort) (Ok (tt {0}))))
       go true b = refl
       go false true = refl
       go false false = refl
@@ -115,15 +116,15 @@ module _ (m : Mode) (image rs ts ls : List ℕ) (xs : List Item) (v : verdict m 
   rules-room h k = rw (v, le-ltb (length rs) (record_size * length xs) h, le-ltb (length ts) (length (bytes xs)) k) refl
 
   -- where there is none, the buffers have room
-  roomy : (listed : Bool) → short listed ≡ Enough → (record_size * length xs ≤ length rs) × (length (bytes xs) ≤ length ts) × (listed ≡ true → length (listing xs) ≤ length ls)
+  roomy : (listed : Bool) → short listed ≡ (Ok (tt {0})) → (record_size * length xs ≤ length rs) × (length (bytes xs) ≤ length ts) × (listed ≡ true → length (listing xs) ≤ length ls)
   unfolding shortage
   roomy listed h = go (ltb (length rs) (record_size * length xs)) refl (ltb (length ts) (length (bytes xs))) refl listed (ltb (length ls) (length (listing xs))) refl h
     where
-      never : {A : Type 0} {r : Reason} → Short r ≡ Enough → A
+      never : {A : Type 0} {r : Reason} → Err r ≡ (Ok (tt {0})) → A
       never k = absurd (let z : ◌≡◌ {A = ℕ} 0 1 = cc in omega arith)
 
       go : (a : Bool) → ltb (length rs) (record_size * length xs) ≡ a → (b : Bool) → ltb (length ts) (length (bytes xs)) ≡ b → (l d : Bool) → ltb (length ls) (length (listing xs)) ≡ d
-          → cond a (Short RecordsTooShort) (cond b (Short TextsTooShort) (cond (l && d) (Short ListingTooShort) Enough)) ≡ Enough
+          → cond a (Err RecordsTooShort) (cond b (Err TextsTooShort) (cond (l && d) (Err ListingTooShort) (Ok (tt {0})))) ≡ (Ok (tt {0}))
           → (record_size * length xs ≤ length rs) × (length (bytes xs) ≤ length ts) × (l ≡ true → length (listing xs) ≤ length ls)
       go true e b f l d g k = never k
       go false e true f l d g k = never k
@@ -134,21 +135,21 @@ module _ (m : Mode) (image rs ts ls : List ℕ) (xs : List Item) (v : verdict m 
 -- ---- which buffer is too short
 
 module _ (c : Count) (n w r size : ℕ) (listed : Bool) where
-  pub short-records : w < record_size * c.records → Short RecordsTooShort ≡ shortage c n w r size listed
+  pub short-records : w < record_size * c.records → Err RecordsTooShort ≡ shortage c n w r size listed
   unfolding shortage
   short-records h = rw (lt-ltb w (record_size * c.records) h)
 
   module _ (h : record_size * c.records ≤ w) where
-    pub short-texts : r < c.texts → Short TextsTooShort ≡ shortage c n w r size listed
+    pub short-texts : r < c.texts → Err TextsTooShort ≡ shortage c n w r size listed
     unfolding shortage
     short-texts k = rw (le-ltb w (record_size * c.records) h, lt-ltb r c.texts k)
 
     module _ (k : c.texts ≤ r) where
-      pub short-listing : (listed && ltb size n) ≡ true → Short ListingTooShort ≡ shortage c n w r size listed
+      pub short-listing : (listed && ltb size n) ≡ true → Err ListingTooShort ≡ shortage c n w r size listed
       unfolding shortage
       short-listing l = rw (le-ltb w (record_size * c.records) h, le-ltb r c.texts k, l)
 
-      pub all_room : (listed && ltb size n) ≡ false → Enough ≡ shortage c n w r size listed
+      pub all_room : (listed && ltb size n) ≡ false → (Ok (tt {0})) ≡ shortage c n w r size listed
       unfolding shortage
       all_room l = rw (le-ltb w (record_size * c.records) h, le-ltb r c.texts k, l)
 
@@ -163,44 +164,45 @@ unlisted c m n w r size = refl
 pub most-small : (image : List ℕ) → refusal image ≡ none → most_records image ≤ 226304
 most-small image p = let a = accepted image p in omega (arith, a.few-elements, a.few_bytes)
 
--- an array of the right size
-pub sized_by : {image : List ℕ} {m size : ℕ} → refusal image ≡ none → m ≡ count_n image → 6 * m ≤ size → {n : ℕ} → size ≡ n → Sized image n
-sized_by p e h i = record { passed = p; few = omega (arith, h, e, i) }
+-- half as many words as there are operations, six for each element or more, and three more are room for the index
+pub ready_by : {image : List ℕ} {m size n : ℕ} → refusal image ≡ none → m ≡ count_n image → 6 * m ≤ size → size / 2 + 3 ≡ n → Ready image n
+ready_by p e h i = record { passed = p; tabled = omega (arith, h, e, i) }
 
--- six operations for each element of the largest image
-pub sized-most : {image : List ℕ} → refusal image ≡ none → Sized image 24576
-sized-most {image} p = record { passed = p; few = omega (arith, (accepted image p).few-elements) }
+-- six operations for each element of the largest image are so many
+pub few-sized : (image : List ℕ) → refusal image ≡ none → 6 * count_n image ≤ 24576
+few-sized image p = omega (arith, (accepted image p).few-elements)
 
 -- buffers that are ample
 pub ample_by : (image : List ℕ) {m : ℕ} (w r : ℕ) → m ≡ most_records image → (leb (record_size * m) w && leb (39 * m) r) ≡ ample image w r
 unfolding ample
 ample_by image w r e = rw e refl
 
--- half of the operations, and three more, are room for the index
-pub sized-ready : {image table : List ℕ} {n : ℕ} → Sized image n → n / 2 + 3 ≤ length table → Ready image table
-sized-ready s k = record { passed = s.passed; tabled = omega (arith, s.few, k) }
-
 -- ---- attempts
 
 module _ {m : Mode} {image rs ts ls rs' ts' ls' : List ℕ} {listed : Bool} where
   -- an answer
-  pub answered-by : {room : Type 0} {r : ListAnswer} → Served m image rs ts ls listed rs' ts' ls' (reply_to listed r) → Attempted room m image rs ts ls listed rs' ts' ls' (Replied r)
+  pub answered-by : {room : Type 0} {r : ListAnswer} → Served m image rs ts ls listed rs' ts' ls' (reply_to listed r) → Attempted room m image rs ts ls listed rs' ts' ls' (Some r)
   answered-by {r = r} h = record {
     answers = λ s e. let i : r ≡ s = cc in rw (← i) h;
     fills = λ e. absurd (let z : ◌≡◌ {A = ℕ} 0 1 = cc in omega arith);
   }
 
   -- the same with room that implies the other's
-  pub attempted-as : {a b : Type 0} {r : Attempt} → (b → a) → Attempted a m image rs ts ls listed rs' ts' ls' r → Attempted b m image rs ts ls listed rs' ts' ls' r
+  pub attempted-as : {a b : Type 0} {r : std.Option ListAnswer} → (b → a) → Attempted a m image rs ts ls listed rs' ts' ls' r → Attempted b m image rs ts ls listed rs' ts' ls' r
   attempted-as f h = record { answers = h.answers; fills = λ e. let (n, k) = h.fills e in (λ x. n (f x), k) }
+
+  -- where there is room, an answer
+  pub answering : {room : Type 0} (a : std.Option ListAnswer) → Attempted room m image rs ts ls listed rs' ts' ls' a → room → is_some a ≡ true
+  answering (Some r) h x = refl
+  answering None h x = absurd ((h.fills refl).0 x)
 
 module _ {m : Mode} {image rs ts ls : List ℕ} {listed : Bool} where
   -- the buffers as they are
-  pub filled-by : {room : Type 0} → (room → ⊥) → Attempted room m image rs ts ls listed rs ts ls Full
+  pub filled-by : {room : Type 0} → (room → ⊥) → Attempted room m image rs ts ls listed rs ts ls None
   filled-by f = record { answers = λ r e. absurd (let z : ◌≡◌ {A = ℕ} 0 1 = cc in omega arith); fills = λ e. (f, (refl, (refl, refl))) }
 
   -- a second attempt where the first was full
-  pub after-full : {room : Type 0} {rs' ts' ls' rs'' ts'' ls'' : List ℕ} {a : Attempt} → Attempted room m image rs ts ls listed rs' ts' ls' a → a ≡ Full
+  pub after-full : {room : Type 0} {rs' ts' ls' rs'' ts'' ls'' : List ℕ} {a : std.Option ListAnswer} → Attempted room m image rs ts ls listed rs' ts' ls' a → a ≡ None
       → {r : Answer} → Served m image rs' ts' ls' listed rs'' ts'' ls'' r → Served m image rs ts ls listed rs'' ts'' ls'' r
   after-full h e k = let (_, (i, (j, l))) = h.fills e in rw (i, j, l) at k
 
@@ -243,12 +245,22 @@ module _ {m : Mode} {image index ops : List ℕ} {q : Plan} (w : Whole m image i
 
 -- ---- what both calls answer
 
+-- a reason that is handed on names no element
+handed-on : (t : ListAnswer) (r : Reason) (listed : Bool) → IsErrAnd t (λ f. f ≡ record { reason = r; element = record { 0 = 0 } }) → reply_to listed t ≡ refused (number_of r) 0
+handed-on (Ok l) r listed h = absurd h
+handed-on (Err f) r listed h = rw h refl
+
+-- the call that prints hands on a refusal too
+pub unlisted-refused : (t : Result Count numbers.Refusal) (f : numbers.Refusal) (a : ListAnswer) → a ≡ Err f → IsErrAnd t (λ g. g ≡ f) → reply t ≡ reply_to false a
+unlisted-refused (Ok c) f a e h = absurd h
+unlisted-refused (Err g) f a e h = rw (e, h) refl
+
 -- the length of the listing of items, by their counts and the bytes of their lines
 long : (xs : List Item) (c : Count) (m n : ℕ) → c ≡ counts_of xs → m ≡ length (record_lines 0 xs) → n ≡ length (head_line c) + m → n ≡ length (listing xs)
 unfolding listing
 long xs c m n e k l = rw (length-append (head_line (counts_of xs)) (record_lines 0 xs)) (rw (e, k) at l)
 
-module _ {m : Mode} {image index ops : List ℕ} {q : Plan} (rs ts ls : List ℕ) (listed : Bool) (z : Size) {c : Count} {n : ℕ} {f : Room} (w : Whole m image index ops q) (y : z ≡ sized (ys w) (no_size listed)) (e : c ≡ counts_with z q.runs) (l : n ≡ length (head_line c) + z.lines) (g : f ≡ shortage c n (length rs) (length ts) (length ls) listed) where
+module _ {m : Mode} {image index ops : List ℕ} {q : Plan} (rs ts ls : List ℕ) (listed : Bool) (z : Size) {c : Count} {n : ℕ} {f : Result (Unit {0}) Reason} (w : Whole m image index ops q) (y : z ≡ sized (ys w) (no_size listed)) (e : c ≡ counts_with z q.runs) (l : n ≡ length (head_line c) + z.lines) (g : f ≡ shortage c n (length rs) (length ts) (length ls) listed) where
   all-counted : c ≡ counts_of (ys w)
   all-counted = counted w listed z y e
 
@@ -264,10 +276,10 @@ module _ {m : Mode} {image index ops : List ℕ} {q : Plan} (rs ts ls : List ℕ
       go false j = rw all-counted (unlisted (counts_of (ys w)) n (length (listing (ys w))) (length rs) (length ts) (length ls))
 
   -- a buffer is too short
-  pub lacking : {r : Reason} → f ≡ Short r → Served m image rs ts ls listed rs ts ls (refused (number_of r) 0)
-  lacking i = turned m image rs ts ls listed _ 0 (rules m image rs ts ls (ys w) (whole-verdict w) listed ∙ ap (left (ys w)) (sym lacks ∙ i))
+  pub lacking : {r : Reason} → f ≡ Err r → (t : ListAnswer) → IsErrAnd t (λ d. d ≡ record { reason = r; element = record { 0 = 0 } }) → Served m image rs ts ls listed rs ts ls (reply_to listed t)
+  lacking i t h = rw (handed-on t _ listed h) (turned m image rs ts ls listed _ 0 (rules m image rs ts ls (ys w) (whole-verdict w) listed ∙ ap (left (ys w)) (sym lacks ∙ i)))
 
-  module _ (i : f ≡ Enough) {rs' ts' : List ℕ} {d : Size} (x : Puts (ys w) rs ts (no_size false) rs' ts' d) where
+  module _ (i : f ≡ (Ok (tt {0}))) {rs' ts' : List ℕ} {d : Size} (x : Puts (ys w) rs ts (no_size false) rs' ts' d) where
     fitting : (record_size * length (ys w) ≤ length rs) × (length (bytes (ys w)) ≤ length ts) × (listed ≡ true → length (listing (ys w)) ≤ length ls)
     fitting = roomy m image rs ts ls (ys w) (whole-verdict w) listed (sym lacks ∙ i)
 
@@ -338,5 +350,5 @@ module _ {m : Mode} {image rs ts ls rs' ts' ls' : List ℕ} {listed : Bool} {a b
 
 -- the answer of the call that lists
 pub listed-reply : (r : ListAnswer) → reply_listed r ≡ reply_to true r
-listed-reply (Unlisted f) = refl
-listed-reply (Listed c n) = refl
+listed-reply (Ok l) = refl
+listed-reply (Err f) = refl

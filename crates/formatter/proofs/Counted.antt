@@ -14,7 +14,7 @@ use Rattle.items.proofs.Fits.{items_of}
 use Rattle.comments.specs.Comments.{comment}
 use Rattle.comments.proofs.Made.{excess, comment-made}
 use Rattle.tree.specs.Tree.{Element, element_of, elements, le32, Forest, nil, tree, forest, choose, texts, count_n, count_b, texts_of, elements_of, tree_of}
-use Rattle.tree.proofs.Accepted.{Accepted}
+use Rattle.tree.proofs.Passing.{Accepted}
 use Rattle.printer.specs.Print.{source_file}
 use Rattle.formatter.proofs.Bound.{count, Rising, end, node, rising_le, bound}
 

@@ -10,7 +10,7 @@ use Rattle.items.specs.Records.{bytes_of, bytes}
 use Rattle.items.proofs.Fits.{Short, Fits, items_of}
 use Rattle.items.proofs.Lengths.{lines-short}
 use Rattle.tree.specs.Tree.{tree_of}
-use Rattle.tree.proofs.Accepted.{Accepted}
+use Rattle.tree.proofs.Passing.{Accepted}
 use Rattle.printer.specs.Print.{source_file}
 use Rattle.plan.specs.Load.{number_in}
 use Rattle.formatter.proofs.Agree.{Below, numbers-small}

@@ -12,13 +12,13 @@ use Rattle.listing.specs.Writes.{page, Writes}
 use Rattle.listing.proofs.Writes.{kept}
 use Rattle.numbers.specs.declared.mode.Mode.{Mode}
 use Rattle.numbers.specs.declared.refusal.Refusal.{Refusal}
-use Rattle.items.specs.declared.Count.{Count}
-use Rattle.formatter.specs.declared.ListAnswer.{ListAnswer}
-use Rattle.formatter.specs.declared.ListAnswer.TheVariants.{Listed, Refused}
+use Rattle.std.specs.declared.option.Option.TheVariants.{Some, None}
+use Rattle.std.specs.declared.result.Result.TheVariants.{Ok, Err}
+use Rattle.formatter.specs.declared.Listed.{Listed}
 use Rattle.items.specs.Records.{record_size}
 use Rattle.formatter.specs.Answer.{Verdict, turned_away, printed, verdict, with_room, with_listing, ruling, answer_of, answer, buffer_of, listing_after}
 use Rattle.numbers.specs.Refusal.{number_of}
-use Rattle.formatter.specs.Reply.{reply_listed}
+use Rattle.formatter.specs.Reply.{ListAnswer, reply_listed}
 use Rattle.formatter.specs.Program.{blank, judged, printed_of, response, number_in, Responds}
 use lib.Seq.{take_at}
 use Rattle.formatter.specs.declared.program.Response.{Response}
@@ -37,15 +37,15 @@ module _ (o : Mode) (image rs ts ls : List ℕ) (a : length rs ≡ record_size *
       go (turned_away n e) = refl
       go (printed xs) = rw (blank-long, c)
 
-  pub responds-listed : {out : List ℕ} {t : ListAnswer} {d : Count} {n : ℕ} → t ≡ Listed d n → reply_listed t ≡ answer o image rs ts (some ls) → out ≡ listing_after o image rs ts ls
-      → Responds o image ls out (record { number = 0; bytes = n })
+  pub responds-listed : {out : List ℕ} {t : ListAnswer} {d : Listed} → t ≡ Ok d → reply_listed t ≡ answer o image rs ts (some ls) → out ≡ listing_after o image rs ts ls
+      → Responds o image ls out (record { refused = None; bytes = d.bytes })
   unfolding answer answer_of listing_after buffer_of response printed_of number_in
-  responds-listed {out} {t} {d} {n} i j k = go (ruling o image rs ts (some ls)) as-judged (ap reply_listed (sym i) ∙ j) k
+  responds-listed {out} {t} {d} i j k = go (ruling o image rs ts (some ls)) as-judged (ap reply_listed (sym i) ∙ j) k
     where
-      go : (v : Verdict) → judged o image ≡ v → reply_listed (Listed d n) ≡ answer_of (some ls) v → out ≡ buffer_of listing v ls → Responds o image ls out (record { number = 0; bytes = n })
+      go : (v : Verdict) → judged o image ≡ v → reply_listed (Ok d) ≡ answer_of (some ls) v → out ≡ buffer_of listing v ls → Responds o image ls out (record { refused = None; bytes = d.bytes })
       go (turned_away m e) q h w = absurd (let z : ◌≡◌ {A = ℕ} 0 1 = cc in omega arith)
       go (printed xs) q h w =
-          let l : n ≡ length (listing xs) = cc in
+          let l : d.bytes ≡ length (listing xs) = cc in
           record {
             number = rw q;
             counted = rw q l;
@@ -53,19 +53,19 @@ module _ (o : Mode) (image rs ts ls : List ℕ) (a : length rs ≡ record_size *
             inside = rw (w, length-append) (omega arith);
           }
 
-  pub responds-refused : {mid out : List ℕ} {t : ListAnswer} {f : Refusal} {n m : ℕ} → t ≡ Refused f → reply_listed t ≡ answer o image rs ts (some ls) → mid ≡ listing_after o image rs ts ls
+  pub responds-refused : {mid out : List ℕ} {t : ListAnswer} {f : Refusal} {n m : ℕ} → t ≡ Err f → reply_listed t ≡ answer o image rs ts (some ls) → mid ≡ listing_after o image rs ts ls
       → n ≡ number_of f.reason → n < 2 ^ 64 → f.element.0 < 2 ^ 64 → Writes (refused_line n f.element.0) (page mid 0) (page out m)
-      → Responds o image ls out (record { number = n; bytes = m })
+      → Responds o image ls out (record { refused = Some f.reason; bytes = m })
   unfolding answer answer_of listing_after buffer_of response printed_of number_in
   responds-refused {mid} {out} {t} {f} {n} {m} i j k d p q w = go (ruling o image rs ts (some ls)) as-judged (ap reply_listed (sym i) ∙ j) k
     where
-      go : (v : Verdict) → judged o image ≡ v → reply_listed (Refused f) ≡ answer_of (some ls) v → mid ≡ buffer_of listing v ls → Responds o image ls out (record { number = n; bytes = m })
+      go : (v : Verdict) → judged o image ≡ v → reply_listed (Err f) ≡ answer_of (some ls) v → mid ≡ buffer_of listing v ls → Responds o image ls out (record { refused = Some f.reason; bytes = m })
       go (turned_away x e) g h z =
           let s : n ≡ x = cc in
           let u : f.element.0 ≡ e = cc in
           let y = refused-short n f.element.0 p q in
           record {
-            number = rw g s;
+            number = rw g (sym d ∙ s);
             counted = rw (g, ← s, ← u) (omega (arith, w.counted));
             written = rw (g, ← s, ← u) (w.stored ∙ rw z (store-overlaid _ ls (omega arith)));
             inside = omega (arith, w.counted, kept w, ap length z);

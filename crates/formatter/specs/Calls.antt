@@ -1,5 +1,7 @@
 -- What the entries answer for what they are lent, and what the functions below them answer.
-use Rattle.std.specs.Prelude.{◌≡◌, Bool, true, false, cond, ◌&&◌, List, ℕ, ◌+◌, ◌*◌, ◌<◌, ◌≤◌, ltb, leb, length}
+use Rattle.std.specs.Prelude.{◌≡◌, Bool, true, false, cond, ◌&&◌, List, ℕ, ◌+◌, ◌*◌, ◌<◌, ◌≤◌, ltb, leb, length, Some, None, Ok, Err, ⊤}
+use Rattle.std.specs.declared.option.Option as std
+use Rattle.std.specs.declared.result.Result.{Result}
 use Rattle.std.proofs.Math.Option.{Option, none, some}
 use Rattle.text.specs.Lent.{Lent, LentMut}
 use Rattle.numbers.specs.declared.mode.Mode.{Mode}
@@ -12,21 +14,18 @@ use Rattle.items.specs.declared.Size.{Size}
 use Rattle.tree.specs.Tree.{count_n, count_b, tree_of}
 use Rattle.tree.specs.Refusal.{refusal}
 use Rattle.tree.specs.Index.{index_size}
-use Rattle.plan.specs.Ops.{source_at, decoded}
+use Rattle.plan.specs.Ops.{decoded}
+use Rattle.tree.specs.Source.{source_at, LentTree}
 use Rattle.printer.specs.Print.{source_file}
 use Rattle.items.specs.declared.Count.{Count}
-use Rattle.formatter.specs.declared.ListAnswer.{ListAnswer}
+use Rattle.numbers.specs.declared.refusal.Reason.{Reason}
 use Rattle.formatter.specs.declared.serve.Wanted.{Wanted}
-use Rattle.formatter.specs.declared.serve.Plan.{Plan}
-use Rattle.formatter.specs.declared.serve.Room.{Room}
-use Rattle.formatter.specs.declared.serve.Room.TheVariants.{Enough, Short}
-use Rattle.formatter.specs.declared.serve.Outlook.{Outlook}
-use Rattle.formatter.specs.declared.serve.Outlook.TheVariants.{Stops, Prints, Full as Filled}
-use Rattle.formatter.specs.declared.serve.Attempt.{Attempt}
-use Rattle.formatter.specs.declared.serve.Attempt.TheVariants.{Answered as Replied, Full}
+use Rattle.plan.specs.declared.Plan.{Plan}
+use Rattle.plan.specs.declared.Halt.{Halt}
+use Rattle.plan.specs.declared.Halt.TheVariants.{Stopped, Full}
 use Rattle.formatter.specs.Answer.{Answer, done, answer, records_after, texts_after, listing_after}
 use Rattle.formatter.specs.Answered.{Answered}
-use Rattle.formatter.specs.Reply.{reply_to}
+use Rattle.formatter.specs.Reply.{ListAnswer, reply_to}
 
 -- ---- the entries
 
@@ -72,21 +71,21 @@ abbrev pub ServedIn : Lent → LentMut → LentMut → LentMut → Wanted → Li
 ServedIn image records texts listing w r =
     Served w.mode image.entry.now records.entry.now texts.entry.now listing.entry.now w.listed records.exit.now texts.exit.now listing.exit.now (reply_to w.listed r)
 
+-- the same of a tree whose image is lent with its index
+abbrev pub ServedBy : LentTree → LentMut → LentMut → LentMut → Wanted → ListAnswer → Type 0
+ServedBy tree records texts listing w r =
+    Served w.mode tree.entry.now.image records.entry.now texts.entry.now listing.entry.now w.listed records.exit.now texts.exit.now listing.exit.now (reply_to w.listed r)
+
 -- ---- plans
 
 -- 'at most 24 records for each element plus 4 for each byte of text'
 abbrev pub most_records : List ℕ → ℕ
 most_records image = 24 * count_n image + 4 * count_b image
 
--- An image that passed the tests 1 to 9, and an array of n operations with six or more for each element.
-pub record Sized (image : List ℕ) (n : ℕ) : Type 0 where
+-- An image that passed the tests 1 to 9, and n words have room for its index.
+pub record Ready (image : List ℕ) (n : ℕ) : Type 0 where
   pub passed : refusal image ≡ none
-  pub few : 6 * count_n image ≤ n
-
--- A table has room for the index of an image that passed.
-pub record Ready (image table : List ℕ) : Type 0 where
-  pub passed : refusal image ≡ none
-  pub tabled : index_size image ≤ length table
+  pub tabled : index_size image ≤ n
 
 -- the items of a plan
 abbrev pub planned_at : List ℕ → List ℕ → List ℕ → Plan → List Item
@@ -105,25 +104,25 @@ pub record Halts (m : Mode) (image : List ℕ) (e : ℕ) : Type 0 where
   pub items : List Item
   pub stops : source_file (tree_of image) (in_mode m) 0 ≡ stop items e
 
--- What planning comes to.
-pub record Foresees (m : Mode) (image index ops : List ℕ) (o : Outlook) : Type 0 where
-  pub stops : (e : Element) → o ≡ Stops e → Halts m image e.0
-  pub prints : (q : Plan) → o ≡ Prints q → Whole m image index ops q
-  pub fills : o ≡ Filled → most_records image < length ops → ⊥
+-- What planning comes to: a plan, the element at which the Rust stops, or a full array.
+pub record Foresees (m : Mode) (image index ops : List ℕ) (o : Result Plan Halt) : Type 0 where
+  pub prints : (q : Plan) → o ≡ Ok q → Whole m image index ops q
+  pub stops : (e : Element) → o ≡ Err (Stopped e) → Halts m image e.0
+  pub fills : o ≡ Err Full → most_records image < length ops → ⊥
 
 -- What an attempt comes to: an answer and the buffers that come back are those of the definition; or there was no room, and the buffers
 -- come back as they were.
-pub record Attempted (room : Type 0) (m : Mode) (image rs ts ls : List ℕ) (listed : Bool) (rs' ts' ls' : List ℕ) (a : Attempt) : Type 0 where
-  pub answers : (r : ListAnswer) → a ≡ Replied r → Served m image rs ts ls listed rs' ts' ls' (reply_to listed r)
-  pub fills : a ≡ Full → (room → ⊥) × ((rs' ≡ rs) × ((ts' ≡ ts) × (ls' ≡ ls)))
+pub record Attempted (room : Type 0) (m : Mode) (image rs ts ls : List ℕ) (listed : Bool) (rs' ts' ls' : List ℕ) (a : std.Option ListAnswer) : Type 0 where
+  pub answers : (r : ListAnswer) → a ≡ Some r → Served m image rs ts ls listed rs' ts' ls' (reply_to listed r)
+  pub fills : a ≡ None → (room → ⊥) × ((rs' ≡ rs) × ((ts' ≡ ts) × (ls' ≡ ls)))
 
 -- the same of what is lent, in an array of n operations: there is room where it has more than the image prints at most
-abbrev pub AttemptedIn : ℕ → Lent → LentMut → LentMut → LentMut → Wanted → Attempt → Type 0
+abbrev pub AttemptedIn : ℕ → Lent → LentMut → LentMut → LentMut → Wanted → std.Option ListAnswer → Type 0
 AttemptedIn n image records texts listing w a =
     Attempted (most_records image.entry.now < n) w.mode image.entry.now records.entry.now texts.entry.now listing.entry.now w.listed records.exit.now texts.exit.now listing.exit.now a
 
 -- the same in arrays of a size or larger ones: in the largest there is room
-abbrev pub TriedIn : ℕ → Lent → LentMut → LentMut → LentMut → Wanted → Attempt → Type 0
+abbrev pub TriedIn : ℕ → Lent → LentMut → LentMut → LentMut → Wanted → std.Option ListAnswer → Type 0
 TriedIn size image records texts listing w a =
     Attempted (226305 ≤ size) w.mode image.entry.now records.entry.now texts.entry.now listing.entry.now w.listed records.exit.now texts.exit.now listing.exit.now a
 
@@ -136,9 +135,9 @@ unfoldable pub ample : List ℕ → ℕ → ℕ → Bool
 ample image words room = leb (record_size * most_records image) words && leb (39 * most_records image) room
 
 -- 11, 12 and 13 by the counts and the bytes of the listing, for buffers of so many words and bytes
-unfoldable pub shortage : Count → ℕ → ℕ → ℕ → ℕ → Bool → Room
+unfoldable pub shortage : Count → ℕ → ℕ → ℕ → ℕ → Bool → Result ⊤ Reason
 shortage c n words room size listed =
-    cond (ltb words (record_size * c.records)) (Short RecordsTooShort)
-    (cond (ltb room c.texts) (Short TextsTooShort)
-    (cond (listed && ltb size n) (Short ListingTooShort)
-    Enough))
+    cond (ltb words (record_size * c.records)) (Err RecordsTooShort)
+    (cond (ltb room c.texts) (Err TextsTooShort)
+    (cond (listed && ltb size n) (Err ListingTooShort)
+    (Ok tt)))

@@ -1,8 +1,11 @@
 -- What the program prints: 'A program reads a tree image from standard input, with room for 5,000 records, 32,000 text bytes and 65,536 listing bytes, and prints the
 -- listing, or one line with `refused`, number and element.'
-use Rattle.std.specs.Prelude.{◌≡◌, List, ℕ, ◌*◌, ◌≤◌, length, replicate}
+use Rattle.std.specs.Prelude.{◌≡◌, List, ℕ, ◌*◌, ◌≤◌, length, replicate, Some, None}
+use Rattle.std.specs.declared.option.Option.{Option}
 use Rattle.std.proofs.Math.Option.{some}
 use Rattle.numbers.specs.declared.mode.Mode.{Mode}
+use Rattle.numbers.specs.declared.refusal.Reason.{Reason}
+use Rattle.numbers.specs.Refusal.{number_of}
 use Rattle.items.specs.Records.{overlaid, record_size}
 use Rattle.listing.specs.Listing.{listing, refused_line}
 use Rattle.formatter.specs.declared.program.Response.{Response}
@@ -30,9 +33,14 @@ unfoldable pub number_in : Verdict → ℕ
 number_in (turned_away n e) = n
 number_in (printed xs) = 0
 
+-- that of a reason that is told or not
+abbrev pub number_told : Option Reason → ℕ
+number_told None = 0
+number_told (Some r) = number_of r
+
 -- The buffer begins with what is printed, and goes on as it was.
 pub record Responds (m : Mode) (image entry exit : List ℕ) (r : Response) : Type 0 where
-  pub number : r.number ≡ number_in (judged m image)
+  pub number : number_told r.refused ≡ number_in (judged m image)
   pub counted : r.bytes ≡ length (response m image)
   pub written : exit ≡ overlaid (response m image) entry
   pub inside : r.bytes ≤ length exit

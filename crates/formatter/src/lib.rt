@@ -14,22 +14,21 @@ use numbers::mode::Mode;
 use numbers::refusal::Refusal;
 use serve::{Wanted, serve};
 
-// Why a tree was turned away, or the counts of what was printed.
+// The counts of what was printed, and the bytes of its listing.
 #[derive(Clone, Copy)]
-pub enum Answer {
-    Refused(Refusal),
-    Printed(Count),
+pub struct Listed {
+    pub counts: Count,
+    pub bytes: usize,
 }
 
-// Why a tree was turned away, or the counts of what was printed and the bytes of its listing.
-#[derive(Clone, Copy)]
-pub enum ListAnswer {
-    Refused(Refusal),
-    Listed { counts: Count, bytes: usize },
-}
-
-// Prints the source file of a tree image in a mode into the lent buffers, or says why not and leaves them as they are.
-pub fn print_items(image: &[u8], mode: Mode, records: &mut [u32], texts: &mut [u8]) -> Answer
+// Prints the source file of a tree image in a mode into the lent buffers and gives the counts, or says why the tree is turned away and leaves
+// the buffers as they are.
+pub fn print_items(
+    image: &[u8],
+    mode: Mode,
+    records: &mut [u32],
+    texts: &mut [u8],
+) -> Result<Count, Refusal>
     ensures result_value { reply result ≡ answer_in image mode records texts none }
     ensures records_after { records.new ≡ records_in image mode records texts none }
     ensures texts_after { texts.new ≡ texts_in image mode records texts none }
@@ -40,11 +39,8 @@ pub fn print_items(image: &[u8], mode: Mode, records: &mut [u32], texts: &mut [u
         mode,
         listed: false,
     };
-    let a = serve(image, records, texts, &mut unasked, wanted);
-    match a {
-        ListAnswer::Refused(r) => Answer::Refused(r),
-        ListAnswer::Listed { counts, bytes: _ } => Answer::Printed(counts),
-    }
+    let done = serve(image, records, texts, &mut unasked, wanted)?;
+    Ok(done.counts)
 }
 
 // The same, and writes the listing of what was printed into a third buffer.
@@ -54,7 +50,7 @@ pub fn list_items(
     records: &mut [u32],
     texts: &mut [u8],
     listing: &mut [u8],
-) -> ListAnswer
+) -> Result<Listed, Refusal>
     ensures result_value { reply_listed result ≡ answer_in image mode records texts (listed listing) }
     ensures records_after { records.new ≡ records_in image mode records texts (listed listing) }
     ensures texts_after { texts.new ≡ texts_in image mode records texts (listed listing) }

@@ -1,11 +1,11 @@
 // What the program of document 01 prints of a tree image. The program stays in the plain mode.
 ghost use Rattle.formatter.specs.Program.{Responds};
 
-use crate::{ListAnswer, list_items};
+use crate::list_items;
 use items::RECORD;
 use listing::write_refused;
 use numbers::mode::Mode;
-use numbers::refusal::number_of;
+use numbers::refusal::Reason;
 
 // Words of 5,000 records.
 const WORDS: usize = RECORD * 5_000;
@@ -14,10 +14,10 @@ const TEXT_BYTES: usize = 32_000;
 
 const LISTING_BYTES: usize = 65_536;
 
-// The number of a refusal, or 0 for a listing, and how many bytes are printed.
+// Why an image was turned away, if it was, and how many bytes are printed.
 #[derive(Clone, Copy)]
 pub struct Response {
-    pub number: u32,
+    pub refused: Option<Reason>,
     pub bytes: usize,
 }
 
@@ -27,14 +27,17 @@ pub fn respond(image: &[u8], mode: Mode, out: &mut [u8; LISTING_BYTES]) -> Respo
 {
     let mut records = [0u32; WORDS];
     let mut texts = [0u8; TEXT_BYTES];
-    let a = list_items(image, mode, &mut records, &mut texts, out);
-    match a {
-        ListAnswer::Refused(r) => {
-            let reason = r.reason;
-            let number = number_of(reason);
-            let bytes = write_refused(number, r.element.0, out);
-            Response { number, bytes }
+    match list_items(image, mode, &mut records, &mut texts, out) {
+        Ok(listed) => Response {
+            refused: None,
+            bytes: listed.bytes,
+        },
+        Err(refusal) => {
+            let reason = refusal.reason;
+            Response {
+                refused: Some(reason),
+                bytes: write_refused(u32::from(reason), refusal.element.0, out),
+            }
         }
-        ListAnswer::Listed { counts: _, bytes } => Response { number: 0, bytes },
     }
 }

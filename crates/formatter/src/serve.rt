@@ -1,20 +1,20 @@
 // What both calls do: tests, plan, room, and then records, texts and the listing, if one is asked for.
-ghost use Rattle.std.specs.Prelude.{◌≡◌, ◌*◌, ◌<◌, ◌≤◌, ◌^◌, length};
+ghost use Rattle.std.specs.Prelude.{◌≡◌, ◌+◌, ◌*◌, ◌<◌, ◌≤◌, ◌^◌, length};
 ghost use Rattle.std.proofs.Math.Option.{none};
 ghost use Rattle.tree.specs.Refusal.{refusal};
-ghost use Rattle.formatter.specs.Calls.{ServedIn, AttemptedIn, TriedIn, most_records, Sized, Ready, Foresees, Whole, counts_with, ample, shortage};
+ghost use Rattle.tree.specs.Index.{Indexed};
+ghost use Rattle.formatter.specs.Calls.{ServedIn, ServedBy, AttemptedIn, TriedIn, most_records, Ready, Foresees, Whole, counts_with, ample, shortage};
 
-use crate::ListAnswer;
+use crate::Listed;
 use items::{Count, RECORD, Size};
 use listing::{listing_length, write_listing};
-use numbers::Element;
 use numbers::mode::Mode;
-use numbers::refusal::{Reason, Refusal, whole};
+use numbers::refusal::{Reason, Refusal};
 use plan::write::{count_ops, write_ops};
-use plan::{is_going, is_stopped, next_run, operations, set_mode, stopped_at};
+use plan::{Halt, Plan, Planner};
 use printer::plan_source;
 use tree::access::ENTRY;
-use tree::{Tested, byte_count, element_count};
+use tree::{Tree, byte_count, element_count};
 
 // How many operations an array holds, four times as many in each size but the largest, which has room for every image. An array is
 // tried first that holds some for each element, which most images do not need; where it is full, the largest.
@@ -33,8 +33,17 @@ const NEXT_SIZE: usize = 4;
 // The operations for each element in the array that is tried first.
 const LIKELY: usize = 6;
 
-// An index has three numbers for each element, half of the operations.
+// An index has an entry for each element, three numbers where there are six operations, and one for the end.
 const INDEX_PART: usize = LIKELY / ENTRY;
+
+const SMALLEST_INDEX: usize = SMALLEST / INDEX_PART + ENTRY;
+
+const SMALL_INDEX: usize = SMALL / INDEX_PART + ENTRY;
+
+const MIDDLE_INDEX: usize = MIDDLE / INDEX_PART + ENTRY;
+
+// That of the largest image too.
+const LARGE_INDEX: usize = LARGE / INDEX_PART + ENTRY;
 
 // Records for each element and each byte of text, at most.
 const EACH_ELEMENT: usize = 24;
@@ -51,35 +60,6 @@ pub struct Wanted {
     pub listed: bool,
 }
 
-// How many operations a plan has, and how many runs they begin.
-#[derive(Clone, Copy)]
-struct Plan {
-    operations: usize,
-    runs: u32,
-}
-
-// What planning comes to: the element at which the Rust stops, a plan, or a full array.
-#[derive(Clone, Copy)]
-enum Outlook {
-    Stops(Element),
-    Prints(Plan),
-    Full,
-}
-
-// What an array of operations comes to: an answer, or it is full.
-#[derive(Clone, Copy)]
-enum Attempt {
-    Answered(ListAnswer),
-    Full,
-}
-
-// Whether buffers have room, or which is too short.
-#[derive(Clone, Copy)]
-enum Room {
-    Enough,
-    Short(Reason),
-}
-
 // The answer to a tree image, which prints it into the lent buffers, and lists what was printed if that is asked for.
 pub fn serve(
     image: &[u8],
@@ -87,16 +67,12 @@ pub fn serve(
     texts: &mut [u8],
     listing: &mut [u8],
     wanted: Wanted,
-) -> ListAnswer
+) -> Result<Listed, Refusal>
     ensures { ServedIn image records texts listing wanted result }
 {
-    let t = tree::refusal(image);
-    match t {
-        Tested::Refused(r) => ListAnswer::Refused(r),
-        Tested::Accepted {
-            elements: _,
-            bytes: _,
-        } => serve_passed(image, records, texts, listing, wanted),
+    match tree::refusal(image) {
+        Err(r) => Err(r),
+        Ok(_) => serve_passed(image, records, texts, listing, wanted),
     }
 }
 
@@ -107,20 +83,15 @@ fn serve_passed(
     texts: &mut [u8],
     listing: &mut [u8],
     wanted: Wanted,
-) -> ListAnswer
+) -> Result<Listed, Refusal>
     requires { refusal image.now ≡ none }
     ensures { ServedIn image records texts listing wanted result }
 {
-    let a = attempt_sized(image, records, texts, listing, wanted, SMALLEST);
-    if let Attempt::Answered(r) = a {
-        return r;
+    if let Some(answer) = attempt_sized(image, records, texts, listing, wanted, SMALLEST) {
+        return answer;
     }
     // The largest has room for every image, so that this one answers.
-    let b = attempt_sized(image, records, texts, listing, wanted, LARGEST);
-    let Attempt::Answered(r) = b else {
-        return ListAnswer::Refused(whole(Reason::RecordsTooShort));
-    };
-    r
+    attempt_sized(image, records, texts, listing, wanted, LARGEST).unwrap()
 }
 
 // How many records an image prints at most.
@@ -142,7 +113,7 @@ fn attempt_sized(
     listing: &mut [u8],
     wanted: Wanted,
     size: usize,
-) -> Attempt
+) -> Option<Result<Listed, Refusal>>
     requires image_value { refusal image.now ≡ none }
     requires le_size { 1 ≤ size }
     ensures { TriedIn size image records texts listing wanted result }
@@ -151,95 +122,32 @@ fn attempt_sized(
         return attempt_sized(image, records, texts, listing, wanted, NEXT_SIZE * size);
     }
     match size {
-        SMALLEST => attempt_smallest(image, records, texts, listing, wanted),
-        SMALL => attempt_small(image, records, texts, listing, wanted),
-        MIDDLE => attempt_middle(image, records, texts, listing, wanted),
-        LARGE => attempt_large(image, records, texts, listing, wanted),
-        _ => attempt_largest(image, records, texts, listing, wanted),
+        SMALLEST => attempt::<SMALLEST, SMALLEST_INDEX>(image, records, texts, listing, wanted),
+        SMALL => attempt::<SMALL, SMALL_INDEX>(image, records, texts, listing, wanted),
+        MIDDLE => attempt::<MIDDLE, MIDDLE_INDEX>(image, records, texts, listing, wanted),
+        LARGE => attempt::<LARGE, LARGE_INDEX>(image, records, texts, listing, wanted),
+        _ => attempt::<LARGEST, LARGE_INDEX>(image, records, texts, listing, wanted),
     }
 }
 
-// The same in the smallest arrays.
-fn attempt_smallest(
+// The same in arrays of so many operations and of so many words for the index.
+fn attempt<const OPERATIONS: usize, const INDEX: usize>(
     image: &[u8],
     records: &mut [u32],
     texts: &mut [u8],
     listing: &mut [u8],
     wanted: Wanted,
-) -> Attempt
-    requires { Sized image.now 384 }
-    ensures { AttemptedIn 384 image records texts listing wanted result }
+) -> Option<Result<Listed, Refusal>>
+    requires lay { OPERATIONS + INDEX < 2 ^ 61 }
+    requires ready { Ready image.now INDEX }
+    ensures { AttemptedIn OPERATIONS image records texts listing wanted result }
 {
-    let mut table = [0u32; SMALLEST / INDEX_PART + ENTRY];
-    let mut ops = [0u32; SMALLEST];
+    let mut table = [0u32; INDEX];
+    let mut ops = [0u32; OPERATIONS];
     serve_in(image, &mut table, &mut ops, records, texts, listing, wanted)
 }
 
-// The same in small ones.
-fn attempt_small(
-    image: &[u8],
-    records: &mut [u32],
-    texts: &mut [u8],
-    listing: &mut [u8],
-    wanted: Wanted,
-) -> Attempt
-    requires { Sized image.now 1536 }
-    ensures { AttemptedIn 1536 image records texts listing wanted result }
-{
-    let mut table = [0u32; SMALL / INDEX_PART + ENTRY];
-    let mut ops = [0u32; SMALL];
-    serve_in(image, &mut table, &mut ops, records, texts, listing, wanted)
-}
-
-// The same in larger ones.
-fn attempt_middle(
-    image: &[u8],
-    records: &mut [u32],
-    texts: &mut [u8],
-    listing: &mut [u8],
-    wanted: Wanted,
-) -> Attempt
-    requires { Sized image.now 6144 }
-    ensures { AttemptedIn 6144 image records texts listing wanted result }
-{
-    let mut table = [0u32; MIDDLE / INDEX_PART + ENTRY];
-    let mut ops = [0u32; MIDDLE];
-    serve_in(image, &mut table, &mut ops, records, texts, listing, wanted)
-}
-
-// The same in still larger ones.
-fn attempt_large(
-    image: &[u8],
-    records: &mut [u32],
-    texts: &mut [u8],
-    listing: &mut [u8],
-    wanted: Wanted,
-) -> Attempt
-    requires { Sized image.now 24576 }
-    ensures { AttemptedIn 24576 image records texts listing wanted result }
-{
-    let mut table = [0u32; LARGE / INDEX_PART + ENTRY];
-    let mut ops = [0u32; LARGE];
-    serve_in(image, &mut table, &mut ops, records, texts, listing, wanted)
-}
-
-// The same in arrays for every image; the index of the largest image is no larger than in those before.
-fn attempt_largest(
-    image: &[u8],
-    records: &mut [u32],
-    texts: &mut [u8],
-    listing: &mut [u8],
-    wanted: Wanted,
-) -> Attempt
-    requires { Sized image.now 24576 }
-    ensures { AttemptedIn 226305 image records texts listing wanted result }
-{
-    let mut table = [0u32; LARGE / INDEX_PART + ENTRY];
-    let mut ops = [0u32; LARGEST];
-    serve_in(image, &mut table, &mut ops, records, texts, listing, wanted)
-}
-
-// The same in lent arrays.
+// The same in lent arrays: the index is written into the table, and the tree is planned.
 fn serve_in(
     image: &[u8],
     table: &mut [u32],
@@ -248,44 +156,33 @@ fn serve_in(
     texts: &mut [u8],
     listing: &mut [u8],
     wanted: Wanted,
-) -> Attempt
-    requires { Ready image.now table.old }
+) -> Option<Result<Listed, Refusal>>
+    requires { Ready image.now (length table.old) }
     ensures { AttemptedIn (length ops.old) image records texts listing wanted result }
 {
-    let mode = wanted.mode;
-    let outlook = plan_image(image, mode, table, ops);
-    match outlook {
-        Outlook::Stops(e) => Attempt::Answered(ListAnswer::Refused(Refusal {
+    tree::index::index(image, table);
+    let tree = Tree {
+        image,
+        index: table,
+    };
+    match plan_tree(&tree, wanted.mode, ops) {
+        Ok(plan) => Some(serve_planned(&tree, ops, plan, records, texts, listing, wanted)),
+        Err(Halt::Stopped(element)) => Some(Err(Refusal {
             reason: Reason::Stopped,
-            element: e,
+            element,
         })),
-        Outlook::Prints(plan) => Attempt::Answered(serve_planned(
-            image, table, ops, plan, records, texts, listing, wanted,
-        )),
-        Outlook::Full => Attempt::Full,
+        Err(Halt::Full) => None,
     }
 }
 
-// Writes the index of an image and the plan of its printing in a mode.
-fn plan_image(image: &[u8], mode: Mode, table: &mut [u32], ops: &mut [u32]) -> Outlook
-    requires { Ready image.now table.old }
-    ensures { Foresees mode image.now table.new ops.new result }
+// The plan of a tree's printing in a mode, or why there is none.
+fn plan_tree(tree: &Tree, mode: Mode, ops: &mut [u32]) -> Result<Plan, Halt>
+    requires { Indexed tree.now.image tree.now.index }
+    ensures { Foresees mode tree.now.image tree.now.index ops.new result }
 {
-    tree::index::index(image, table);
-    let mut cells = [0u32; 8];
-    set_mode(&mut cells, mode);
-    plan_source(ops, &mut cells, image, table);
-    if is_stopped(cells) {
-        return Outlook::Stops(stopped_at(&cells));
-    }
-    let n = operations(&cells);
-    if !is_going(&cells) | (ops.len() < n) {
-        return Outlook::Full;
-    }
-    Outlook::Prints(Plan {
-        operations: n,
-        runs: next_run(&cells).0,
-    })
+    let mut planner = Planner::new(ops, mode);
+    plan_source(&mut planner, tree);
+    planner.finish()
 }
 
 // The counts of a plan's items, by their size and the runs: each run's list has two marks.
@@ -303,40 +200,36 @@ fn counts_with(p: Size, runs: u32) -> Count
 
 // The answer by a plan: why buffers are too short, or the counts of what is printed into them.
 fn serve_planned(
-    image: &[u8],
-    index: &[u32],
+    tree: &Tree,
     ops: &[u32],
     plan: Plan,
     records: &mut [u32],
     texts: &mut [u8],
     listing: &mut [u8],
     wanted: Wanted,
-) -> ListAnswer
-    requires { Whole wanted.mode image.now index.now ops.now plan }
-    ensures { ServedIn image records texts listing wanted result }
+) -> Result<Listed, Refusal>
+    requires { Whole wanted.mode tree.now.image tree.now.index ops.now plan }
+    ensures { ServedBy tree records texts listing wanted result }
 {
     let n = plan.operations;
     let listed = wanted.listed;
-    if !listed & is_ample(image, records.len(), texts.len()) {
-        let p = write_ops(records, texts, image, index, ops, n);
-        return ListAnswer::Listed {
+    if !listed & is_ample(tree.image, records.len(), texts.len()) {
+        let p = write_ops(records, texts, tree, ops, n);
+        return Ok(Listed {
             counts: counts_with(p, plan.runs),
             bytes: 0,
-        };
+        });
     }
-    let p = count_ops(image, index, ops, n, listed);
+    let p = count_ops(tree, ops, n, listed);
     let counts = counts_with(p, plan.runs);
     let bytes = listing_length(counts, p.lines);
     let size = listing.len();
-    let f = fit(counts, bytes, records.len(), texts.len(), size, listed);
-    if let Room::Short(reason) = f {
-        return ListAnswer::Refused(whole(reason));
-    }
-    write_ops(records, texts, image, index, ops, n);
+    fit(counts, bytes, records.len(), texts.len(), size, listed)?;
+    write_ops(records, texts, tree, ops, n);
     if listed {
         write_listing(records, texts, counts, listing);
     }
-    ListAnswer::Listed { counts, bytes }
+    Ok(Listed { counts, bytes })
 }
 
 // Whether buffers of so many words and bytes have room for all that an image may print: then nothing is counted first.
@@ -349,17 +242,24 @@ fn is_ample(image: &[u8], words: usize, room: usize) -> bool
 }
 
 // Whether buffers of so many words and bytes have room for what was counted, and one of so many bytes for its listing.
-fn fit(c: Count, bytes: usize, words: usize, room: usize, size: usize, listed: bool) -> Room
+fn fit(
+    c: Count,
+    bytes: usize,
+    words: usize,
+    room: usize,
+    size: usize,
+    listed: bool,
+) -> Result<(), Reason>
     ensures { result ≡ shortage c bytes words room size listed }
 {
     if words < RECORD * (c.records as usize) {
-        return Room::Short(Reason::RecordsTooShort);
+        return Err(Reason::RecordsTooShort);
     }
     if room < c.texts as usize {
-        return Room::Short(Reason::TextsTooShort);
+        return Err(Reason::TextsTooShort);
     }
     if listed & (size < bytes) {
-        return Room::Short(Reason::ListingTooShort);
+        return Err(Reason::ListingTooShort);
     }
-    Room::Enough
+    Ok(())
 }

@@ -1,8 +1,8 @@
 -- Decimal digits: the last one behind those of the tenth part.
-use mathlib.Core.Path.{◌≡◌, refl, ap, ◌∙◌}
+use mathlib.Core.Path.{◌≡◌, refl, sym, ap, ◌∙◌}
 use mathlib.Core.Bool.{Bool, true, false, cond}
 use mathlib.Core.List.{List, [], ◌∷◌, ◌++◌}
-use Prim.Native.Nat.{ℕ, zero, suc, ◌+◌, ◌/◌, ◌%◌, ◌^◌, ◌≤◌, ◌<◌}
+use Prim.Native.Nat.{ℕ, zero, suc, ◌+◌, ◌*◌, ◌/◌, ◌%◌, ◌^◌, ◌≤◌, ◌<◌}
 use native.Mathlib.Omega.{arith}
 use native.Mathlib.Numerals.{add-one}
 use lib.Dec.{ltb}
@@ -64,18 +64,7 @@ one-long n h = ap length (one-digit n (48 + n) h refl)
 pub tenth_shorter : (n : ℕ) → 10 ≤ n → length (decimal n) ≡ suc (length (decimal (n / 10)))
 tenth_shorter n h = ap length (last-digit n (48 + n % 10) h refl) ∙ length-append (decimal (n / 10)) ((48 + n % 10) ∷ []) ∙ add-one _
 
--- so there are as many digits as divisions by ten that leave something, and one more
-pub two_long : (n : ℕ) → 10 ≤ n → n < 100 → length (decimal n) ≡ 2
-two_long n h k = omega (arith, tenth_shorter n h, one-long (n / 10) (omega arith))
-
-pub three-long : (n : ℕ) → 100 ≤ n → n < 1000 → length (decimal n) ≡ 3
-three-long n h k = omega (arith, tenth_shorter n (omega arith), two_long (n / 10) (omega arith) (omega arith))
-
-pub four_long : (n : ℕ) → 1000 ≤ n → n < 10000 → length (decimal n) ≡ 4
-four_long n h k = omega (arith, tenth_shorter n (omega arith), three-long (n / 10) (omega arith) (omega arith))
-
--- four digits less without the last four
-pub four_shorter : (n : ℕ) → 10000 ≤ n → length (decimal n) ≡ 4 + length (decimal (n / 10000))
-four_shorter n h =
-    let e : n / 10 / 10 / 10 / 10 ≡ n / 10000 = omega arith in
-    rw (← e) (omega (arith, tenth_shorter n (omega arith), tenth_shorter (n / 10) (omega arith), tenth_shorter (n / 10 / 10) (omega arith), tenth_shorter (n / 10 / 10 / 10) (omega arith)))
+-- so there is a digit for each power of ten up to the number
+pub digits-by_power : (k n : ℕ) → 10 ^ k ≤ n → n < 10 * 10 ^ k → k + 1 ≡ length (decimal n)
+digits-by_power zero n h l = sym (one-long n (omega arith))
+digits-by_power (suc k) n h l = omega (arith, tenth_shorter n (omega arith), digits-by_power k (n / 10) (omega arith) (omega arith))

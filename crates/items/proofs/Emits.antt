@@ -1,67 +1,93 @@
 -- What a function that emits one item shows.
-use mathlib.Core.Path.{◌≡◌, refl, sym, ◌∙◌}
-use mathlib.Core.Bool.{Bool, true, false, cond, not, false≢true}
+use mathlib.Core.Path.{◌≡◌, refl, ap, sym, ◌∙◌}
+use mathlib.Core.Bool.{Bool, true, false, cond, false≢true}
 use mathlib.Core.List.{List, [], ◌∷◌, append-nil}
-use Prim.Native.Nat.{ℕ, zero, suc, ◌≤◌}
+use Prim.Native.Nat.{ℕ, zero, suc, ◌≤◌, ◌*◌}
 use lib.Dec.{eqb}
 use borrow.Author.Tests.{eqb-true, eqb-false}
 use Rattle.text.proofs.Lists.{and_true}
 use native.Mathlib.Omega.{arith}
 use lib.ListN.{length}
+use lib.Seq.{length-sets}
+use Rattle.std.specs.Borrow.{MutBor}
+use Rattle.std.specs.Prelude.{Option, Some, None, is_some}
 use Rattle.items.specs.declared.Entry.{Entry}
-use Rattle.items.specs.declared.Printed.{Printed}
-use Rattle.items.specs.declared.Printed.TheVariants.{Done, Full}
 use Rattle.items.specs.declared.Signal.{Signal}
+use Rattle.items.specs.declared.Output.{Output}
 use Rattle.items.specs.declared.Size.{Size}
 use Rattle.items.specs.Item.{Item, text, plain_item, signal, signal_kind}
-use Rattle.items.specs.Records.{bytes_of, words, bytes}
-use Rattle.items.specs.Machine.{State, full, reached, store, all_fit, sized, size_after, Puts, counted, printable, emitted, emit_all, printing, seen, held, Says}
-use Rattle.items.specs.Entry.{entry_of, plain_entry, text_entry, store_entry, line_of, InRange, continued, recorded}
+use Rattle.items.specs.Records.{bytes_of, words, bytes, record_size}
+use Rattle.items.specs.Machine.{State, full, reached, store, all_fit, sized, size_after, Puts, counted, printable, emitted, emit_all, printing, seen, output, outcome, Frame, Says}
+use Rattle.items.specs.Entry.{entry_of, plain_entry, text_entry, store_entry, line_of, InRange, room_for, continued, recorded, Emits}
 use Rattle.items.specs.Lines.{record_line, record_lines}
 use Rattle.items.specs.Names.{has_number, line_length}
-use Rattle.items.proofs.Laws.{passed}
 use Rattle.items.proofs.Lengths.{line-length}
-use Rattle.items.proofs.Numbers.{in-range-of}
+use Rattle.items.proofs.Laws.{frame-none, frame-both, passed}
+use Rattle.items.proofs.Numbers.{in-range-of, nowhere, goes_on}
 
 -- ---- what the functions that print one item show
 
--- printing that is full stays so
-pub stays-full : (e : Entry) (rs : List ℕ) {o : Printed} → o ≡ Full → (o ≡ continued e o) × (rs ≡ recorded e o rs)
+-- an output that is full stays so
+pub emits-none : (e : Entry) {o : Output} → o.size ≡ None → Emits e o o
 unfolding continued recorded
-stays-full e rs h = rw h (refl, refl)
+emits-none e h = record { size = rw h refl; records = rw h refl; texts = refl; frame = frame-none }
+
+-- one that was full is seen as it was
+still-seen : {e : Entry} {o a : Output} → Emits e o a → o.size ≡ None → outcome a ≡ outcome o
+unfolding continued recorded
+still-seen m h = rw (m.size, m.records, m.texts, h) refl
+
+-- what the room for an entry makes of an output
+module _ {e : Entry} {o : Output} {p : Size} {r : Option ℕ} (is : r ≡ room_for e p) (k : o.size ≡ Some p) where
+  pub emits-full : r ≡ None → Emits e o (output o.records o.texts None)
+  emits-full h = let (a, b) = nowhere e p r is o.records.now k h in record { size = a; records = b; texts = refl; frame = record { same_records = refl; same_texts = refl; records_lent = refl; texts_lent = refl } }
+
+  pub emits-more : {l : ℕ} {d : Size} {rs : MutBor (List ℕ)} → r ≡ Some l → d ≡ size_after e.bytes l p → rs.now ≡ store_entry e p o.records.now → rs.ghost_name ≡ o.records.ghost_name
+      → Emits e o (output rs o.texts (Some d))
+  unfolding store
+  emits-more {l} h g w n =
+      let (a, b) = goes_on e p r is l h o.records.now k g w in
+      let s = length-sets o.records.now (record_size * p.records) (e.kind ∷ e.first ∷ e.second ∷ []) in
+      record { size = a; records = b; texts = refl; frame = record { same_records = ap length w ∙ s; same_texts = refl; records_lent = n; texts_lent = refl } }
 
 -- an item is printed where its entry is emitted, and its bytes are stored if its numbers fit
-shown :
-    (x : Item) (p : Size) (rs ts : List ℕ) {e : Entry} {o r : Printed} {rs' ts' : List ℕ} → e ≡ entry_of p.texts x → o ≡ Done p → r ≡ continued e (Done p) → rs' ≡ recorded e (Done p) rs
-    → (r ≡ Full → ts' ≡ ts) → ((q : Size) → r ≡ Done q → ts' ≡ store ts p.texts (bytes_of x)) → length rs' ≡ length rs → length ts' ≡ length ts → Says (x ∷ []) (held rs ts o) (held rs' ts' r)
+shown : (x : Item) (p : Size) {e : Entry} {o b a : Output} → Emits e o b → e ≡ entry_of p.texts x → o.size ≡ Some p → a.size ≡ b.size → a.records.now ≡ b.records.now → Frame b a
+    → (is_some b.size ≡ false → a.texts.now ≡ o.texts.now) → (is_some b.size ≡ true → a.texts.now ≡ store o.texts.now p.texts (bytes_of x)) → Says (x ∷ []) o a
 unfolding printing seen emit_all continued recorded
-shown x p rs ts {r = r} {rs'} {ts'} i k m w f g l₁ l₂ =
-    record { ran = rw k (go (printable p x) (rw (i, line-length p.records p.texts x) at m) (rw (i, line-length p.records p.texts x) at w)); same_records = l₁; same_texts = l₂ }
+shown x p {o = o} {b} {a} m i k y z l f g =
+    record {
+      ran = rw (k, y, z) (go (printable p x) (rw (k, i, line-length p.records p.texts x) at m.size) (rw (k, i, line-length p.records p.texts x) at m.records));
+      frame = frame-both m.frame l;
+    }
   where
     σ : State
-    σ = record { records = rs; texts = ts; size = p }
+    σ = record { records = o.records.now; texts = o.texts.now; size = p }
 
-    go : (t : Bool) → r ≡ cond t (Done (counted p x)) Full → rs' ≡ cond t (store_entry (entry_of p.texts x) p rs) rs → seen rs' ts' r ≡ cond t (reached (emitted x σ)) (full rs ts)
-    go true h j = rw (h, j, g (counted p x) h) refl
-    go false h j = rw (h, j, f h) refl
+    go : (t : Bool) → b.size ≡ cond t (Some (counted p x)) None → b.records.now ≡ cond t (store_entry (entry_of p.texts x) p o.records.now) o.records.now
+        → seen b.records.now a.texts.now b.size ≡ cond t (reached (emitted x σ)) (full o.records.now o.texts.now)
+    go true h j = rw (h, j, g (rw h refl)) refl
+    go false h j = rw (h, j, f (rw h refl)) refl
 
 -- a text that does not fit, and one that does
-module _ (p : Size) (s : List ℕ) {e : Entry} {o r : Printed} {rs ts rs' : List ℕ} (i : e ≡ text_entry p.texts (length s)) (k : o ≡ Done p) (m : r ≡ continued e (Done p)) (w : rs' ≡ recorded e (Done p) rs) where
-  pub text-full : r ≡ Full → length rs' ≡ length rs → Says (text s ∷ []) (held rs ts o) (held rs' ts r)
-  text-full f l = shown (text s) p rs ts i k m w (λ _. refl) (λ q h. absurd (let z : ◌≡◌ {A = ℕ} 0 1 = cc in omega arith)) l refl
+module _ (s : List ℕ) {p : Size} {e : Entry} {o b : Output} (m : Emits e o b) (i : e ≡ text_entry p.texts (length s)) (k : o.size ≡ Some p) where
+  pub text-full : is_some b.size ≡ false → Says (text s ∷ []) o b
+  text-full f = shown (text s) p m i k refl refl frame-none (λ _. m.texts) (λ t. absurd (false≢true (sym f ∙ t)))
 
-  pub text-shown : {q : Size} {ts' : List ℕ} → r ≡ Done q → ts' ≡ store ts p.texts s → length rs' ≡ length rs → length ts' ≡ length ts → Says (text s ∷ []) (held rs ts o) (held rs' ts' r)
-  text-shown f b l₁ l₂ = shown (text s) p rs ts i k m w (λ h. absurd (let z : ◌≡◌ {A = ℕ} 0 1 = cc in omega arith)) (λ q h. b) l₁ l₂
+  pub text-shown : {ts : MutBor (List ℕ)} → is_some b.size ≡ true → ts.now ≡ store b.texts.now p.texts s → ts.ghost_name ≡ b.texts.ghost_name → Says (text s ∷ []) o (output b.records ts b.size)
+  unfolding store
+  text-shown {ts = ts} t w n =
+      let l : Frame b (output b.records ts b.size) = record { same_records = refl; same_texts = ap length w ∙ length-sets b.texts.now p.texts s; records_lent = refl; texts_lent = n } in
+      shown (text s) p m i k refl refl l (λ f. absurd (false≢true (sym f ∙ t))) (λ _. rw m.texts at w)
 
 -- an item without operands
-module _ (x : Signal) {k : ℕ} {e : Entry} {o r : Printed} {rs ts rs' : List ℕ} (j : k ≡ signal_kind x) (i : e ≡ plain_entry k 0 0) (m : r ≡ continued e o) (w : rs' ≡ recorded e o rs) (l : length rs' ≡ length rs) where
-  signal-at : (p : Printed) → o ≡ p → Says (signal x ∷ []) (held rs ts o) (held rs' ts r)
+module _ (x : Signal) {k : ℕ} {e : Entry} {o a : Output} (m : Emits e o a) (j : k ≡ signal_kind x) (i : e ≡ plain_entry k 0 0) where
+  signal-at : (p : Option Size) → o.size ≡ p → Says (signal x ∷ []) o a
   unfolding store
-  signal-at (Done p) h = shown (signal x) p rs ts (i ∙ rw j refl) h (rw h at m) (rw h at w) (λ _. refl) (λ q h. refl) l refl
-  signal-at Full h = let (a, b) = stays-full e rs h in rw (w ∙ sym b, m ∙ sym a) (passed (signal x ∷ []) h)
+  signal-at (Some p) h = shown (signal x) p m (i ∙ rw j refl) h refl refl frame-none (λ _. m.texts) (λ _. m.texts)
+  signal-at None h = record { ran = still-seen m h ∙ (passed (signal x ∷ []) {o = o} h).ran; frame = m.frame }
 
-  pub signal-shown : Says (signal x ∷ []) (held rs ts o) (held rs' ts r)
-  signal-shown = signal-at o refl
+  pub signal-shown : Says (signal x ∷ []) o a
+  signal-shown = signal-at o.size refl
 
 -- ---- items without a text by their kinds
 
@@ -87,11 +113,11 @@ plain-kinds P p2 p3 p4 p5 p6 p7 p8 p9 p10 p11 p12 p13 p14 p15 p16 p17 (suc (suc 
 plain-kinds P p2 p3 p4 p5 p6 p7 p8 p9 p10 p11 p12 p13 p14 p15 p16 p17 (suc (suc (suc (suc (suc (suc (suc (suc (suc (suc (suc (suc (suc (suc (suc (suc (suc zero))))))))))))))))) h l = p17
 plain-kinds P p2 p3 p4 p5 p6 p7 p8 p9 p10 p11 p12 p13 p14 p15 p16 p17 (suc (suc (suc (suc (suc (suc (suc (suc (suc (suc (suc (suc (suc (suc (suc (suc (suc (suc k)))))))))))))))))) h l = absurd (omega arith)
 
--- an item's record by its kind and its number
-pub plain_entry_lem : (k n : ℕ) → 2 ≤ k → k ≤ 18 → (k ≡ 18 → ⊥) → {b : Bool} {f : ℕ} → b ≡ has_number k → f ≡ cond b n 0 → plain_entry k f 0 ≡ entry_of 0 (plain_item k n)
+-- an item's record by its kind and its number, whether the kind has one
+pub plain_entry_lem : (k n : ℕ) → 2 ≤ k → k ≤ 18 → (k ≡ 18 → ⊥) → {b : Bool} → b ≡ has_number k → plain_entry k (cond b n 0) 0 ≡ entry_of 0 (plain_item k n)
 unfolding plain_item
-plain_entry_lem k n h l q d e =
-    rw (e, d)
+plain_entry_lem k n h l q d =
+    rw d
     (plain-kinds (λ k. plain_entry k (cond (has_number k) n 0) 0 ≡ entry_of 0 (plain_item k n))
     refl refl refl refl refl refl refl refl refl refl refl refl refl refl refl refl k h (omega (arith, l, q)))
 
@@ -112,15 +138,6 @@ plain-bare k n at h l = go (eqb k 18) refl
     go false e = plain-kinds Bare (refl, refl) (refl, refl) (refl, refl) (refl, refl) (refl, refl) (refl, refl) (refl, refl) (refl, refl) (refl, refl) (refl, refl) (refl, refl) (refl, refl) (refl, refl) (refl, refl) (refl, refl) (refl, refl) k h (omega (arith, l, eqb-false k 18 e))
 
 -- ---- items that are put where their numbers fit
-
--- the bytes of a line that is counted or not
-pub line-left : (l : Bool) (n : ℕ) → not l ≡ true → 0 ≡ cond l n 0
-line-left true n h = absurd (false≢true h)
-line-left false n h = refl
-
-pub line_taken : (l : Bool) {m n : ℕ} → not l ≡ false → m ≡ n → m ≡ cond l n 0
-line_taken true h e = e
-line_taken false h e = absurd (false≢true (sym h))
 
 -- where records are not listed, no line is counted
 pub unlisted : (k a b : ℕ) (p : Size) → p.listed ≡ false → 0 ≡ cond p.listed (line_length p.records k a b) 0

@@ -10,13 +10,13 @@ use lib.ListN.{length, set, length-append}
 use lib.Seq.{sets-eq, length-sets}
 use borrow.Author.Tests.{lt-ltb, ltb-true}
 use Rattle.text.specs.Basic.{all, All, ∅, ◌▹◌}
-use Rattle.items.specs.declared.Printed.{Printed}
-use Rattle.items.specs.declared.Printed.TheVariants.{Done, Full}
+use Rattle.std.specs.Prelude.{Some, None}
+use Rattle.items.specs.declared.Output.{Output}
 use Rattle.items.specs.declared.Size.{Size}
 use Rattle.items.specs.Item.{always, lines, Item, signal, text, mark, run_end, again, if_test, Out, stop, ok, run as opening}
 use Rattle.items.specs.Lines.{record_line, record_lines}
 use Rattle.items.specs.Records.{record_of, bytes_of, words, bytes, overlaid, record_size}
-use Rattle.items.specs.Machine.{State, store, counted, fit, printable, all_fit, sized, no_size, Puts, emitted, emit_all, full, reached, printing, seen, held, Says}
+use Rattle.items.specs.Machine.{State, store, counted, fit, printable, all_fit, sized, no_size, Puts, emitted, emit_all, full, reached, printing, seen, Says}
 use Rattle.text.proofs.Lists.{and_true}
 use Rattle.items.proofs.Decoding.{words-length}
 
@@ -204,23 +204,23 @@ all-emitted (x ∷ xs) σ h =
     let (a, b) = and_true (printable σ.size x) _ h in
     rw a (all-emitted xs (emitted x σ) b ∙ ap reached (all_emitted-cons x xs σ))
 
-module _ (xs : List Item) {rs ts rs' ts' : List ℕ} {z : Size} {p r : Printed} (f : all_fit xs z ≡ true) (i : p ≡ Done z) (h : Says xs (held rs ts p) (held rs' ts' r)) where
+module _ (xs : List Item) {z : Size} {o a : Output} (f : all_fit xs z ≡ true) (i : o.size ≡ Some z) (h : Says xs o a) where
   abbrev from : State
-  from = record { records = rs; texts = ts; size = z }
+  from = record { records = o.records.now; texts = o.texts.now; size = z }
 
-  said_all : seen rs' ts' r ≡ reached (all_emitted xs from)
+  said_all : seen a.records.now a.texts.now a.size ≡ reached (all_emitted xs from)
   unfolding printing seen
   said_all = rw i at h.ran ∙ all-emitted xs from f
 
   -- it puts them
-  pub said-puts : {d : Size} → r ≡ Done d → Puts xs rs ts z rs' ts' d
+  pub said-puts : {d : Size} → a.size ≡ Some d → Puts xs o.records.now o.texts.now z a.records.now a.texts.now d
   unfolding seen
   said-puts {d} j =
-      let k : reached (record { records = rs'; texts = ts'; size = d }) ≡ reached (all_emitted xs from) = rw j at said_all in
-      let q : record { records = rs'; texts = ts'; size = d } ≡ all_emitted xs from = cc in
+      let k : reached (record { records = a.records.now; texts = a.texts.now; size = d }) ≡ reached (all_emitted xs from) = rw j at said_all in
+      let q : record { records = a.records.now; texts = a.texts.now; size = d } ≡ all_emitted xs from = cc in
       record { records = ap State.records q; texts = ap State.texts q; size = ap State.size q }
 
   -- it comes to its end
-  pub said-done : r ≡ Full → ⊥
+  pub said-done : a.size ≡ None → ⊥
   unfolding seen
-  said-done j = let k : full rs' ts' ≡ reached (all_emitted xs from) = rw j at said_all in let z : ◌≡◌ {A = ℕ} 0 1 = cc in omega arith
+  said-done j = let k : full a.records.now a.texts.now ≡ reached (all_emitted xs from) = rw j at said_all in let z : ◌≡◌ {A = ℕ} 0 1 = cc in omega arith

@@ -4,10 +4,11 @@ use mathlib.Core.Bool.{Bool, true, false, cond}
 use mathlib.Core.List.{List, [], ◌∷◌, ◌++◌}
 use Prim.Native.Nat.{ℕ}
 use native.Mathlib.Omega.{arith}
-use Rattle.items.specs.declared.Printed.{Printed}
-use Rattle.items.specs.declared.Printed.TheVariants.{Done, Full}
+use Rattle.std.specs.Prelude.{Option, Some, None}
 use Rattle.items.specs.Item.{Item}
-use Rattle.items.specs.Machine.{State, Outcome, full, reached, printable, emitted, emit_all, printing, seen, Held, held, Says}
+use Rattle.items.specs.declared.Output.{Output}
+use Rattle.items.specs.declared.Size.{Size}
+use Rattle.items.specs.Machine.{State, Outcome, full, reached, printable, emitted, emit_all, printing, seen, Frame, Says}
 
 all_append : (xs ys : List Item) (σ : State) → emit_all (xs ++ ys) σ ≡ printing ys (emit_all xs σ)
 unfolding emit_all printing
@@ -33,38 +34,49 @@ printing-none (reached σ) = refl
 
 -- ---- printers' contracts
 
+pub frame-none : {o : Output} → Frame o o
+frame-none = record { same_records = refl; same_texts = refl; records_lent = refl; texts_lent = refl }
+
+pub frame-both : {o a b : Output} → Frame o a → Frame a b → Frame o b
+frame-both h k = record {
+  same_records = k.same_records ∙ h.same_records;
+  same_texts = k.same_texts ∙ h.same_texts;
+  records_lent = k.records_lent ∙ h.records_lent;
+  texts_lent = k.texts_lent ∙ h.texts_lent;
+}
+
 -- no items
-pub unsaid : {o : Held} → Says [] o o
-unsaid = record { ran = sym (printing-none _); same_records = refl; same_texts = refl }
+pub unsaid : {o : Output} → Says [] o o
+unsaid = record { ran = sym (printing-none _); frame = frame-none }
 
 infixr 40 ◌▸▸◌
 -- some items, and then others
-pub ◌▸▸◌ : {xs ys : List Item} {o a b : Held} → Says xs o a → Says ys a b → Says (xs ++ ys) o b
-◌▸▸◌ {xs} {ys} h k = record { ran = rw (printing-append xs ys, ← h.ran) k.ran; same_records = k.same_records ∙ h.same_records; same_texts = k.same_texts ∙ h.same_texts }
+pub ◌▸▸◌ : {xs ys : List Item} {o a b : Output} → Says xs o a → Says ys a b → Says (xs ++ ys) o b
+◌▸▸◌ {xs} {ys} h k = record { ran = rw (printing-append xs ys, ← h.ran) k.ran; frame = frame-both h.frame k.frame }
 
 -- printing that is full stays where it is, whatever is printed
-pub passed : (xs : List Item) {rs ts : List ℕ} {p : Printed} → p ≡ Full → Says xs (held rs ts p) (held rs ts p)
+pub passed : (xs : List Item) {o : Output} → o.size ≡ None → Says xs o o
 unfolding printing seen
-passed xs h = rw h (record { ran = refl; same_records = refl; same_texts = refl })
+passed xs h = record { ran = rw h refl; frame = frame-none }
 
--- a printer that is handed Full answers it, and changes no cell
-pub full-kept : {xs : List Item} {rs ts rs' ts' : List ℕ} {r : Printed} → Says xs (held rs ts Full) (held rs' ts' r) → (r ≡ Full) × ((rs' ≡ rs) × (ts' ≡ ts))
+-- a printer whose output is full leaves it so, and changes no cell
+pub full-kept : {xs : List Item} {o a : Output} → o.size ≡ None → Says xs o a → (a.size ≡ None) × ((a.records.now ≡ o.records.now) × (a.texts.now ≡ o.texts.now))
 unfolding printing seen
-full-kept {rs} {ts} {rs'} {ts'} {r} h = go r h.ran
+full-kept {o} {a} e h = go a.size (rw e at h.ran)
   where
-    go : (r : Printed) → seen rs' ts' r ≡ full rs ts → (r ≡ Full) × ((rs' ≡ rs) × (ts' ≡ ts))
-    go (Done p) k = absurd (let z : ◌≡◌ {A = ℕ} 0 1 = cc in omega arith)
-    go Full k = (refl, (cc, cc))
+    go : (r : Option Size) → seen a.records.now a.texts.now r ≡ full o.records.now o.texts.now → (r ≡ None) × ((a.records.now ≡ o.records.now) × (a.texts.now ≡ o.texts.now))
+    go (Some p) k = absurd (let z : ◌≡◌ {A = ℕ} 0 1 = cc in omega arith)
+    go None k = (refl, (cc, cc))
 
 -- A loop that prints: whoever prints the rest ys from here has printed the whole xs.
-pub record Going (xs ys : List Item) (o a : Held) : Type 0 where
-  pub rest : {b : Held} → Says ys a b → Says xs o b
+pub record Going (xs ys : List Item) (o a : Output) : Type 0 where
+  pub rest : {b : Output} → Says ys a b → Says xs o b
 
-pub going-none : (xs : List Item) (o : Held) → Going xs xs o o
+pub going-none : (xs : List Item) (o : Output) → Going xs xs o o
 going-none xs o = record { rest = λ h. h }
 
-pub going_more : {xs ys zs us : List Item} {o a b : Held} → Going xs ys o a → ys ≡ us ++ zs → Says us a b → Going xs zs o b
+pub going_more : {xs ys zs us : List Item} {o a b : Output} → Going xs ys o a → ys ≡ us ++ zs → Says us a b → Going xs zs o b
 going_more g e h = record { rest = λ k. g.rest (rw e (h ▸▸ k)) }
 
-pub going-all : {xs ys : List Item} {o a : Held} → Going xs ys o a → ys ≡ [] → Says xs o a
+pub going-all : {xs ys : List Item} {o a : Output} → Going xs ys o a → ys ≡ [] → Says xs o a
 going-all g e = g.rest (rw e unsaid)

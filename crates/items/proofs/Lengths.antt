@@ -1,11 +1,11 @@
 -- The lengths of the lines that list records, by the words of a record and by its item.
 use mathlib.Core.Path.{◌≡◌, refl, sym, ◌∙◌}
 use mathlib.Core.Bool.{Bool, true, false, cond, ◌&&◌}
-use mathlib.Core.List.{List, [], ◌∷◌, ◌++◌}
+use mathlib.Core.List.{List, [], ◌∷◌, ◌++◌, map}
 use Prim.Native.Nat.{ℕ, suc, ◌+◌, ◌*◌, ◌≤◌, ◌<◌, ◌^◌, zero}
 use native.Mathlib.Omega.{arith}
 use lib.Dec.{leb, eqb}
-use lib.ListN.{length, length-append, get_or-eq_default}
+use lib.ListN.{length, length-append, get_or}
 use borrow.Author.Tests.{leb-true, eq-eqb, ne_eqb}
 use Rattle.text.specs.Basic.{ascii, All, ∅, all, ◌▹◌}
 use Rattle.text.proofs.Lists.{and_true}
@@ -13,7 +13,7 @@ use Rattle.text.specs.Words.{word_in}
 use Rattle.items.specs.Item.{always, lines, Item, signal, text, mark, run, run_end, again, if_test, signal_kind}
 use Rattle.items.specs.Lines.{decimal, field, described, record_line, record_lines, kind_names}
 use Rattle.items.proofs.Decimals.{decimal-short}
-use Rattle.items.specs.Names.{name_at, described_length, line_length, names_of, other_names, has_number}
+use Rattle.items.specs.Names.{name_at, described_length, line_length, names_of, name_lengths, other_names, has_number}
 use Rattle.items.specs.Records.{record_of, bytes_of, bytes}
 use Rattle.items.proofs.Fits.{Short}
 use Rattle.items.proofs.Signals.{plain}
@@ -23,18 +23,15 @@ use Prim.Native.String.{String}
 
 -- ---- names
 
--- the length of the name with the number j
-pub length_of_lem : (t : Table) (j : ℕ) {w n : ℕ} → length (ascii (name_at t j)) ≡ n → w ≡ j → n ≡ length (ascii (name_at t w))
-length_of_lem t j e h = rw h (sym e)
+length_in : (ns : List String) (w : ℕ) → get_or (map (λ s. length (ascii s)) ns) w 0 ≡ length (ascii (word_in ns w))
+length_in [] w = refl
+length_in (n ∷ ns) zero = refl
+length_in (n ∷ ns) (suc w) = length_in ns w
 
--- no other number has a name
-pub nameless : (t : Table) (w : ℕ) → length (names_of t) ≤ w → 0 ≡ length (ascii (name_at t w))
+-- the length of the name with a number, by those of all names
+pub length-at : (t : Table) (w : ℕ) → get_or (name_lengths t) w 0 ≡ length (ascii (name_at t w))
 unfolding name_at
-nameless t w h = rw (get_or-eq_default (names_of t) "" h)
-
--- the length of a name of a table that is known
-pub of_table : (t u : Table) (w : ℕ) {n : ℕ} → t ≡ u → n ≡ length (ascii (name_at u w)) → n ≡ length (ascii (name_at t w))
-of_table t u w e h = rw e h
+length-at t w = length_in (names_of t) w
 
 -- names are short: one computed test over each table
 shorts : (t : Table) → all (λ n. leb (length (ascii n)) 16) (names_of t) ≡ true

@@ -7,11 +7,8 @@ use native.Mathlib.Omega.{arith}
 use lib.Dec.{ltb}
 use borrow.Author.Tests.{le-ltb, ltb-true}
 use Rattle.text.specs.Basic.{all, All, ∅, ◌▹◌}
+use Rattle.std.specs.Prelude.{Option, Some, None}
 use Rattle.items.specs.declared.Entry.{Entry}
-use Rattle.items.specs.declared.Printed.TheVariants.{Done, Full}
-use Rattle.items.specs.declared.Printed.{Printed}
-use Rattle.items.specs.declared.Room.{Room}
-use Rattle.items.specs.declared.Room.TheVariants.{Line, Nowhere}
 use Rattle.items.specs.Machine.{fit, size_after}
 use Rattle.items.proofs.Fits.{fit_true, fits_below}
 use Rattle.items.specs.declared.Size.{Size}
@@ -45,10 +42,6 @@ under l f s n h k = omega arith
 beyond : (f s n : ℕ) → 2 ^ 32 ≤ n → 2 ^ 32 ≤ max f (max s n)
 beyond f s n h = omega arith
 
--- the largest of three, compared one after another
-pub largest : (l f s : ℕ) {k m : ℕ} → k ≡ max f s → m ≡ max l k → m ≡ max l (max f s)
-largest l f s h i = rw (i, h)
-
 module _ (e : Entry) (p : Size) where
   abbrev line : ℕ
   line = line_of e p
@@ -71,46 +64,42 @@ module _ (e : Entry) (p : Size) where
   abbrev grown : ℕ
   grown = max (p.records + 1) (max (p.texts + e.bytes) (p.lines + line))
 
-  -- the size compared one after another, from the last on
-  pub grown-is : {l r n : ℕ} → l ≡ line → r ≡ max (p.texts + e.bytes) (p.lines + l) → n ≡ max (p.records + 1) r → n ≡ grown
-  grown-is o h i = rw (i, h, o)
-
-  no_room : 2 ^ 32 ≤ most e.first others → Nowhere ≡ room_for e p
+  no_room : 2 ^ 32 ≤ most e.first others → None ≡ room_for e p
   unfolding room_for
   no_room h = rw (misfits e.first others h)
 
-  pub brought-full : {m : ℕ} → m ≡ brought → 2 ^ 32 ≤ m → Nowhere ≡ room_for e p
+  pub brought-full : {m : ℕ} → m ≡ brought → 2 ^ 32 ≤ m → None ≡ room_for e p
   brought-full q h = no_room (over e.bytes e.first e.second _ (p.texts + e.bytes) _ (rw q at h) (omega arith))
 
-  pub grown-full : {m : ℕ} → m ≡ grown → 2 ^ 32 ≤ m → Nowhere ≡ room_for e p
+  pub grown-full : {m : ℕ} → m ≡ grown → 2 ^ 32 ≤ m → None ≡ room_for e p
   grown-full q h = no_room (beyond e.first e.second grown (rw q at h))
 
-  pub room-line : {l m n : ℕ} → l ≡ line → m ≡ brought → m < 2 ^ 32 → n ≡ grown → n < 2 ^ 32 → Line l ≡ room_for e p
+  pub room-line : {l m n : ℕ} → l ≡ line → m ≡ brought → m < 2 ^ 32 → n ≡ grown → n < 2 ^ 32 → Some l ≡ room_for e p
   unfolding room_for
   room-line o f g q h = rw (o, fit_true (below e.first others (under e.bytes e.first e.second grown (rw f at g) (rw q at h))))
 
   -- what the room for an entry says
-  module _ (r : Room) (is : r ≡ room_for e p) where
-    pub nowhere : {o : Printed} (rs : List ℕ) → o ≡ Done p → r ≡ Nowhere → (Full ≡ continued e o) × (rs ≡ recorded e o rs)
+  module _ (r : Option ℕ) (is : r ≡ room_for e p) where
+    pub nowhere : {o : Option Size} (rs : List ℕ) → o ≡ Some p → r ≡ None → (None ≡ continued e o) × (rs ≡ recorded e o rs)
     unfolding room_for continued recorded
     nowhere rs known h = rw known (go (fit (e.first ∷ others)) is)
       where
-        go : (t : Bool) → r ≡ cond t (Line line) Nowhere → (Full ≡ cond t (Done (grown_by e p)) Full) × (rs ≡ cond t (store_entry e p rs) rs)
+        go : (t : Bool) → r ≡ cond t (Some line) None → (None ≡ cond t (Some (grown_by e p)) None) × (rs ≡ cond t (store_entry e p rs) rs)
         go true k = let z : ◌≡◌ {A = ℕ} 0 1 = cc in absurd (omega arith)
         go false k = (refl, refl)
 
-    module _ (l : ℕ) (h : r ≡ Line l) where
+    module _ (l : ℕ) (h : r ≡ Some l) where
       fitted : (l ≡ line) × (fit (e.first ∷ others) ≡ true)
       unfolding room_for
       fitted = go (fit (e.first ∷ others)) refl is
         where
-          go : (t : Bool) → fit (e.first ∷ others) ≡ t → r ≡ cond t (Line line) Nowhere → (l ≡ line) × (fit (e.first ∷ others) ≡ true)
+          go : (t : Bool) → fit (e.first ∷ others) ≡ t → r ≡ cond t (Some line) None → (l ≡ line) × (fit (e.first ∷ others) ≡ true)
           go true q k = (cc, q)
           go false q k = let z : ◌≡◌ {A = ℕ} 0 1 = cc in absurd (omega arith)
 
       pub in-range : InRange l e p
       in-range = rw fitted.0 (in-range-of fitted.1)
 
-      pub goes_on : {o : Printed} {d : Size} (rs : List ℕ) {rs' : List ℕ} → o ≡ Done p → d ≡ size_after e.bytes l p → rs' ≡ store_entry e p rs → (Done d ≡ continued e o) × (rs' ≡ recorded e o rs)
+      pub goes_on : {o : Option Size} {d : Size} (rs : List ℕ) {rs' : List ℕ} → o ≡ Some p → d ≡ size_after e.bytes l p → rs' ≡ store_entry e p rs → (Some d ≡ continued e o) × (rs' ≡ recorded e o rs)
       unfolding continued recorded
       goes_on rs known g k = rw (known, g, k, fitted.0, fitted.1) (refl, refl)

@@ -1,15 +1,12 @@
 -- What the functions that emit, and those that advance a size, are handed and promise. Only contracts of private functions cite this.
-use Rattle.std.specs.Prelude.{cond, List, ℕ, ◌+◌, ◌<◌, ◌^◌, length}
+use Rattle.std.specs.Prelude.{◌≡◌, cond, List, ℕ, ◌+◌, ◌<◌, ◌^◌, length, Option, Some, None}
 use Rattle.items.specs.declared.Entry.{Entry}
-use Rattle.items.specs.declared.Printed.{Printed}
-use Rattle.items.specs.declared.Printed.TheVariants.{Done, Full}
-use Rattle.items.specs.declared.Room.{Room}
-use Rattle.items.specs.declared.Room.TheVariants.{Line, Nowhere}
+use Rattle.items.specs.declared.Output.{Output}
 use Rattle.items.specs.declared.Size.{Size}
 use Rattle.items.specs.Item.{Item}
 use Rattle.items.specs.Names.{line_length}
 use Rattle.items.specs.Records.{record_of, bytes_of}
-use Rattle.items.specs.Machine.{store_record, size_after, countable}
+use Rattle.items.specs.Machine.{store_record, size_after, countable, Frame}
 
 -- an item's entry, where its text would stand at this offset
 abbrev pub entry_of : ℕ → Item → Entry
@@ -48,15 +45,22 @@ abbrev pub store_entry : Entry → Size → List ℕ → List ℕ
 store_entry e p rs = store_record rs p.records e.kind e.first e.second
 
 -- an entry's line, where the entry can be counted
-unfoldable pub room_for : Entry → Size → Room
-room_for e p = cond (countable e.first e.second (grown_by e p)) (Line (line_of e p)) Nowhere
+unfoldable pub room_for : Entry → Size → Option ℕ
+room_for e p = cond (countable e.first e.second (grown_by e p)) (Some (line_of e p)) None
 
 -- printing goes on by an entry where its numbers fit, and else is full
-unfoldable pub continued : Entry → Printed → Printed
-continued e (Done p) = cond (countable e.first e.second (grown_by e p)) (Done (grown_by e p)) Full
-continued e Full = Full
+unfoldable pub continued : Entry → Option Size → Option Size
+continued e (Some p) = cond (countable e.first e.second (grown_by e p)) (Some (grown_by e p)) None
+continued e None = None
 
 -- the records after that: an entry that does not fit changes none
-unfoldable pub recorded : Entry → Printed → List ℕ → List ℕ
-recorded e (Done p) rs = cond (countable e.first e.second (grown_by e p)) (store_entry e p rs) rs
-recorded e Full rs = rs
+unfoldable pub recorded : Entry → Option Size → List ℕ → List ℕ
+recorded e (Some p) rs = cond (countable e.first e.second (grown_by e p)) (store_entry e p rs) rs
+recorded e None rs = rs
+
+-- Emitting an entry takes o to a: the texts are not touched.
+pub record Emits (e : Entry) (o a : Output) : Type 0 where
+  pub size : a.size ≡ continued e o.size
+  pub records : a.records.now ≡ recorded e o.size o.records.now
+  pub texts : a.texts.now ≡ o.texts.now
+  pub frame : Frame o a

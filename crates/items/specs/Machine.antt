@@ -1,11 +1,12 @@
 -- The effect of items on the lent buffers and the size, and the contract of every printer of items.
-use Rattle.std.specs.Prelude.{◌≡◌, Bool, true, cond, ◌&&◌, List, [], ◌∷◌, ℕ, ◌+◌, ◌*◌, ◌^◌, ltb, length}
+use Rattle.std.specs.Prelude.{◌≡◌, Bool, true, cond, ◌&&◌, List, [], ◌∷◌, ℕ, ◌+◌, ◌*◌, ◌^◌, ltb, length, Option, Some, None}
+use Rattle.std.specs.Borrow.{MutBor}
 use Rattle.std.proofs.lemmas.List.Edits.{sets}
+use denote.Triple.Both.{Both}
 use Rattle.text.specs.Basic.{all}
 use Rattle.text.specs.Lent.{LentMut}
-use Rattle.items.specs.declared.Printed.{Printed}
+use Rattle.items.specs.declared.Output.{Output}
 use Rattle.items.specs.declared.Size.{Size}
-use Rattle.items.specs.declared.Printed.TheVariants.{Done, Full}
 use Rattle.items.specs.Item.{Item}
 use Rattle.items.specs.Lines.{record_line, record_lines}
 use Rattle.items.specs.Records.{record_of, bytes_of, words, bytes, record_size}
@@ -104,30 +105,34 @@ printing xs (full rs ts) = full rs ts
 printing xs (reached σ) = emit_all xs σ
 
 -- what the code's answer and the buffers say
-unfoldable pub seen : List ℕ → List ℕ → Printed → Outcome
-seen rs ts (Done p) = reached (record { records = rs; texts = ts; size = p })
-seen rs ts Full = full rs ts
+unfoldable pub seen : List ℕ → List ℕ → Option Size → Outcome
+seen rs ts (Some p) = reached (record { records = rs; texts = ts; size = p })
+seen rs ts None = full rs ts
 
--- What a printer is handed and what it leaves: the lent buffers, and how far printing has come.
-pub record Held : Type 0 where
-  pub records : List ℕ
-  pub texts : List ℕ
-  pub printed : Printed
+-- an output in lent buffers, behind what has this size
+abbrev pub output : MutBor (List ℕ) → MutBor (List ℕ) → Option Size → Output
+output records texts size = record { records = records; texts = texts; size = size }
 
--- the two buffers and the answer
-abbrev pub held : List ℕ → List ℕ → Printed → Held
-held rs ts p = record { records = rs; texts = ts; printed = p }
+-- what is seen of an output
+abbrev pub outcome : Output → Outcome
+outcome h = seen h.records.now h.texts.now h.size
 
--- what is seen of them
-abbrev pub outcome : Held → Outcome
-outcome h = seen h.records h.texts h.printed
+-- What printing leaves as it was: the buffers that are lent, and their lengths.
+pub record Frame (o a : Output) : Type 0 where
+  pub same_records : length a.records.now ≡ length o.records.now
+  pub same_texts : length a.texts.now ≡ length o.texts.now
+  pub records_lent : a.records.ghost_name ≡ o.records.ghost_name
+  pub texts_lent : a.texts.ghost_name ≡ o.texts.ghost_name
 
 -- Every printer's contract: printing xs takes o to a, in buffers that keep their lengths.
-pub record Says (xs : List Item) (o a : Held) : Type 0 where
+pub record Says (xs : List Item) (o a : Output) : Type 0 where
   pub ran : outcome a ≡ printing xs (outcome o)
-  pub same_records : length a.records ≡ length o.records
-  pub same_texts : length a.texts ≡ length o.texts
+  pub frame : Frame o a
 
--- the contract of a printer that is lent the records and the texts, is handed p and answers r: it prints xs
-abbrev pub SaysIn : LentMut → LentMut → Printed → Printed → List Item → Type 0
-SaysIn records texts p r xs = Says xs (held records.entry.now texts.entry.now p) (held records.exit.now texts.exit.now r)
+-- an output that is lent, at the entry and at the exit of a call
+abbrev pub LentOutput : Type 0
+LentOutput = Both (MutBor Output) (MutBor Output)
+
+-- the contract of a printer that is lent an output: it prints xs
+abbrev pub SaysIn : LentOutput → List Item → Type 0
+SaysIn out xs = Says xs out.entry.now out.exit.now

@@ -1,5 +1,5 @@
 -- The names in a listing by their tables and numbers, and the length of a record's line by its words. Only contracts below the entry cite this.
-use Rattle.std.specs.Prelude.{Bool, cond, ◌&&◌, ◌||◌, List, [], ◌∷◌, ℕ, ◌+◌, leb, eqb, length}
+use Rattle.std.specs.Prelude.{Bool, cond, ◌&&◌, ◌||◌, List, [], ◌∷◌, ℕ, ◌+◌, leb, eqb, length, map}
 use Prim.Native.String.{String}
 use Rattle.text.specs.Basic.{ascii}
 use Rattle.text.specs.Words.{word_in}
@@ -19,6 +19,10 @@ names_of Others = other_names
 -- the name with a number
 unfoldable pub name_at : Table → ℕ → String
 name_at t w = word_in (names_of t) w
+
+-- the lengths of the names of a table
+abbrev pub name_lengths : Table → List ℕ
+name_lengths t = map (λ s. length (ascii s)) (names_of t)
 
 -- the records of this kind have one number: mark, run, run-end and again
 abbrev pub has_number : ℕ → Bool

@@ -4,12 +4,13 @@
 pub mod lines;
 pub mod names;
 
-ghost use Rattle.std.specs.Prelude.{◌≡◌, true, false, cond, [], ◌∷◌, max, ◌+◌, ◌<◌, ◌≤◌, ◌^◌, length, set};
+ghost use Rattle.std.specs.Prelude.{◌≡◌, true, false, cond, [], ◌∷◌, ◌+◌, ◌<◌, ◌≤◌, ◌^◌, length, set};
 ghost use Rattle.items.specs.Item.{plain_item, text, signal, signal_kind};
-ghost use Rattle.items.specs.Machine.{SaysIn, PutsIn, all_fit, sized, size_after, store, store_record, no_size};
-ghost use Rattle.items.specs.Entry.{InRange, RoomAfter, entry_of, plain_entry, text_entry, room_for, continued, recorded, store_entry};
+ghost use Rattle.items.specs.Machine.{output, SaysIn, PutsIn, all_fit, sized, size_after, store, store_record, no_size};
+ghost use Rattle.items.specs.Entry.{InRange, RoomAfter, entry_of, plain_entry, text_entry, room_for, Emits, store_entry};
 ghost use Rattle.items.specs.Names.{line_length};
 
+use lines::LINES;
 use numbers::Mark;
 
 // What was printed: records, bytes of their texts, runs and marks.
@@ -21,7 +22,8 @@ pub struct Count {
     pub marks: u32,
 }
 
-// How much is put: records, bytes of their texts and, where the records are listed, of the lines that list them.
+// How much is put: records, bytes of their texts and, where the records are listed, of the lines that list them. Printing gives an
+// `Option<Size>`: none where it is full, since a number of the size or an operand would no longer fit 32 bits.
 #[derive(Clone, Copy)]
 pub struct Size {
     pub records: u32,
@@ -30,11 +32,12 @@ pub struct Size {
     pub listed: bool,
 }
 
-// How far printing has come. It is full where a number of the size or an operand would no longer fit 32 bits.
-#[derive(Clone, Copy)]
-pub enum Printed {
-    Done(Size),
-    Full,
+// Where items are printed: lent records and texts, and the size of what was printed.
+#[derive(Drop)]
+pub struct Output<'a> {
+    records: &'a mut [u32],
+    texts: &'a mut [u8],
+    size: Option<Size>,
 }
 
 // An item without operands.
@@ -63,7 +66,7 @@ pub enum Condition {
 // The words of a record.
 pub const RECORD: usize = 3;
 
-// The kinds of records.
+// The kinds of records: numbers, as lent records and C have them.
 pub const TEXT: u32 = 1;
 
 pub const NEW_LINE: u32 = 2;
@@ -101,9 +104,6 @@ pub const END_IF: u32 = 17;
 // A condition on lines, where it goes by one number; no record is of this kind.
 pub const IF_LINES: u32 = 18;
 
-// The first operand of a condition on lines.
-const LINES: u64 = 1;
-
 // Numbers from here on do not fit 32 bits.
 const LIMIT: u64 = 0x1_0000_0000;
 
@@ -114,13 +114,6 @@ struct Entry {
     first: u64,
     second: u64,
     bytes: u64,
-}
-
-// Room for a record whose line counts so many bytes, or none where a number does not fit.
-#[derive(Clone, Copy)]
-enum Room {
-    Line(u32),
-    Nowhere,
 }
 
 // A record with no text.
@@ -147,13 +140,6 @@ fn text_entry(at: u32, bytes: usize) -> Entry
     }
 }
 
-// The number where it is so, else 0.
-fn number_if(b: bool, n: u32) -> u64
-    ensures { result ≡ cond b n 0 }
-{
-    if b { n as u64 } else { 0 }
-}
-
 // The record of an item without a text, by its kind and its number.
 fn plain_entry(kind: u32, n: u32) -> Entry
     requires le_kind { 2 ≤ kind }
@@ -161,17 +147,21 @@ fn plain_entry(kind: u32, n: u32) -> Entry
     ensures { result ≡ entry_of 0 (plain_item kind n) }
 {
     if kind == IF_LINES {
-        return plain(IF, LINES, n as u64);
+        return plain(IF, LINES as u64, n as u64);
     }
-    plain(kind, number_if(lines::has_number(kind), n), 0)
+    if lines::has_number(kind) {
+        plain(kind, n as u64, 0)
+    } else {
+        plain(kind, 0, 0)
+    }
 }
 
-// Stores w at place at, if there is room.
-fn put_word(buf: &mut [u32], at: usize, w: u32)
-    ensures { buf.new ≡ set buf.old at w }
+// Stores x at place at, if there is room.
+fn put<T: Copy>(buf: &mut [T], at: usize, x: T)
+    ensures { buf.new ≡ set buf.old at x }
 {
     if at < buf.len() {
-        buf[at] = w;
+        buf[at] = x;
     }
 }
 
@@ -180,30 +170,16 @@ fn put_record(buf: &mut [u32], n: u32, kind: u32, first: u32, second: u32)
     ensures { buf.new ≡ store_record buf.old n kind first second }
 {
     let at = RECORD * (n as usize);
-    put_word(buf, at, kind);
-    put_word(buf, at + 1, first);
-    put_word(buf, at + 2, second);
+    put(buf, at, kind);
+    put(buf, at + 1, first);
+    put(buf, at + 2, second);
 }
 
 // Stores b at place at, if there is room.
 pub fn put_byte(buf: &mut [u8], at: usize, b: u8)
     ensures { buf.new ≡ set buf.old at b }
 {
-    if at < buf.len() {
-        buf[at] = b;
-    }
-}
-
-// Stores the bytes of s from place at on, where there is room for all.
-fn copy_bytes(buf: &mut [u8], at: usize, s: &[u8])
-    requires { at + length s.now ≤ length buf.old }
-    ensures { buf.new ≡ store buf.old at s.now }
-{
-    let mut i = 0;
-    while i < s.len() {
-        buf[at + i] = s[i];
-        i += 1;
-    }
+    put(buf, at, b);
 }
 
 // Stores the bytes of s from place at on, as far as there is room.
@@ -211,62 +187,33 @@ pub fn put_bytes(buf: &mut [u8], at: usize, s: &[u8])
     requires { at + length s.now < 2 ^ 64 }
     ensures { buf.new ≡ store buf.old at s.now }
 {
-    if at + s.len() <= buf.len() {
-        copy_bytes(buf, at, s);
-        return;
-    }
-    let mut i = 0;
-    while i < s.len() {
-        put_byte(buf, at + i, s[i]);
-        i += 1;
+    let end = buf.len().min(at + s.len());
+    if at < end {
+        buf[at..end].copy_from_slice(&s[..end - at]);
     }
 }
 
-// The larger of two numbers.
-fn larger(a: u64, b: u64) -> u64
-    ensures { result ≡ max a b }
-{
-    if a < b { b } else { a }
-}
-
-// The size after one record more, with so many bytes of text and of its line.
-fn after(p: Size, bytes: u32, line: u32) -> Size
-    requires { RoomAfter bytes line p }
-    ensures { result ≡ size_after bytes line p }
-{
-    Size {
-        records: p.records + 1,
-        texts: p.texts + bytes,
-        lines: p.lines + line,
-        listed: p.listed,
+impl Size {
+    // Advances the size by a record, with so many bytes of text and of its line.
+    fn advance(&mut self, bytes: u32, line: u32)
+        requires { RoomAfter bytes line self.old }
+        ensures { self.new ≡ size_after bytes line self.old }
+    {
+        self.records += 1;
+        self.texts += bytes;
+        self.lines += line;
     }
-}
-
-// Advances the size that is lent by a record.
-fn advance(p: &mut Size, bytes: u32, line: u32)
-    requires { RoomAfter bytes line p.old }
-    ensures { p.new ≡ size_after bytes line p.old }
-{
-    *p = after(*p, bytes, line);
-}
-
-// Lends the size for a record, and gives it back: whoever calls this lends none.
-fn advanced(mut p: Size, bytes: u32, line: u32) -> Size
-    requires { RoomAfter bytes line p }
-    ensures { result ≡ size_after bytes line p }
-{
-    advance(&mut p, bytes, line);
-    p
 }
 
 // Stores a record at the end, and gives the size after it. Its numbers must fit.
-fn put_entry(records: &mut [u32], p: Size, e: Entry, line: u32) -> Size
+fn put_entry(records: &mut [u32], mut p: Size, e: Entry, line: u32) -> Size
     requires { InRange line e p }
     ensures value { result ≡ size_after e.bytes line p }
     ensures records_after { records.new ≡ store_entry e p records.old }
 {
     put_record(records, p.records, e.kind, e.first as u32, e.second as u32);
-    advanced(p, e.bytes as u32, line)
+    p.advance(e.bytes as u32, line);
+    p
 }
 
 // The bytes of a record's line, where records are listed.
@@ -279,7 +226,8 @@ fn line_if(listed: bool, n: u32, kind: u32, first: u32, second: u32) -> u64
     lines::line_length(n, kind, first, second)
 }
 
-// Puts a text, also one of no bytes, behind what was put. Its numbers must fit; no line is counted, so records are not listed.
+// Puts a text, also one of no bytes, behind what was put. Its numbers must fit; no line is counted, so records are not listed. This and
+// `put_plain` are no methods of `Output`, whose size may be none: where all numbers fit, nothing is ever full.
 pub fn put_text(records: &mut [u32], texts: &mut [u8], s: &[u8], p: Size) -> Size
     requires listed_value { p.listed ≡ false }
     requires p_value { all_fit (text s.now ∷ []) p ≡ true }
@@ -301,17 +249,18 @@ pub fn put_plain(records: &mut [u32], texts: &mut [u8], kind: u32, n: u32, p: Si
 }
 
 // The size after a text. Its numbers must fit.
-pub fn count_text(s: &[u8], p: Size) -> Size
+pub fn count_text(s: &[u8], mut p: Size) -> Size
     requires { all_fit (text s.now ∷ []) p ≡ true }
     ensures { result ≡ sized (text s.now ∷ []) p }
 {
     let bytes = s.len() as u32;
     let line = line_if(p.listed, p.records, TEXT, p.texts, bytes);
-    advanced(p, bytes, line as u32)
+    p.advance(bytes, line as u32);
+    p
 }
 
 // The size after an item without a text. Its numbers must fit.
-pub fn count_plain(kind: u32, n: u32, p: Size) -> Size
+pub fn count_plain(kind: u32, n: u32, mut p: Size) -> Size
     requires le_kind { 2 ≤ kind }
     requires kind_bound { kind ≤ 18 }
     requires p_value { all_fit (plain_item kind n ∷ []) p ≡ true }
@@ -319,7 +268,8 @@ pub fn count_plain(kind: u32, n: u32, p: Size) -> Size
 {
     let e = plain_entry(kind, n);
     let line = line_if(p.listed, p.records, e.kind, e.first as u32, e.second as u32);
-    advanced(p, 0, line as u32)
+    p.advance(0, line as u32);
+    p
 }
 
 // Nothing is put yet, of records that are to be listed or not.
@@ -334,54 +284,24 @@ pub fn no_size(listed: bool) -> Size
     }
 }
 
-// Whether the operands of a record and the size after it fit.
-fn fitting(e: Entry, p: Size) -> Room
+// The bytes to be counted of a record's line; none where an operand of it or a number of the size after it does not fit.
+fn fitting(e: Entry, p: Size) -> Option<u32>
     ensures { result ≡ room_for e p }
 {
-    if LIMIT <= larger(e.bytes, larger(e.first, e.second)) {
-        return Room::Nowhere;
+    if LIMIT <= e.bytes.max(e.first.max(e.second)) {
+        return None;
     }
     let records = p.records as u64 + 1;
     let texts = p.texts as u64 + e.bytes;
     let line = line_if(p.listed, p.records, e.kind, e.first as u32, e.second as u32);
     let lines = p.lines as u64 + line;
-    if LIMIT <= larger(records, larger(texts, lines)) {
-        return Room::Nowhere;
+    if LIMIT <= records.max(texts.max(lines)) {
+        return None;
     }
-    Room::Line(line as u32)
+    Some(line as u32)
 }
 
-// The one place that asks: stores a record and counts it, if its numbers fit, and changes nothing if not.
-fn emit(records: &mut [u32], e: Entry, p: Printed) -> Printed
-    ensures value { result ≡ continued e p }
-    ensures records_after { records.new ≡ recorded e p records.old }
-{
-    let Printed::Done(q) = p else {
-        return p;
-    };
-    let room = fitting(e, q);
-    let Room::Line(line) = room else {
-        return Printed::Full;
-    };
-    Printed::Done(put_entry(records, q, e, line))
-}
-
-// Prints a text, also one of no bytes. It is stored once its record is: where that does not fit, nothing is.
-pub fn print_text(records: &mut [u32], texts: &mut [u8], s: &[u8], p: Printed) -> Printed
-    ensures { SaysIn records texts p result (text s.now ∷ []) }
-{
-    let Printed::Done(q) = p else {
-        return p;
-    };
-    let r = emit(records, text_entry(q.texts, s.len()), p);
-    let Printed::Done(_) = r else {
-        return r;
-    };
-    put_bytes(texts, q.texts as usize, s);
-    r
-}
-
-// The kind of an item without operands.
+// The kind of an item without operands. With numbers in the enum they would stand twice, beside the constants of all kinds.
 pub fn signal_kind(s: Signal) -> u32
     ensures { result ≡ signal_kind s }
 {
@@ -400,9 +320,56 @@ pub fn signal_kind(s: Signal) -> u32
     }
 }
 
-// Prints an item without operands.
-pub fn print_signal(records: &mut [u32], texts: &mut [u8], s: Signal, p: Printed) -> Printed
-    ensures { SaysIn records texts p result (signal s ∷ []) }
-{
-    emit(records, plain(signal_kind(s), 0, 0), p)
+impl<'a> Output<'a> {
+    // Behind what has this size, in lent buffers.
+    pub fn new(records: &'a mut [u32], texts: &'a mut [u8], size: Option<Size>) -> Output<'a>
+        ensures { result ≡ output records.entry texts.entry size }
+    {
+        Output {
+            records,
+            texts,
+            size,
+        }
+    }
+
+    // The size of what was printed; none where it is full.
+    pub fn size(&self) -> Option<Size>
+        ensures { result ≡ self.now.size }
+    {
+        self.size
+    }
+
+    // The one place that asks: stores a record and counts it, if its numbers fit. If not, the output is full, and no cell changes.
+    fn emit(&mut self, e: Entry)
+        ensures { Emits e self.old self.new }
+    {
+        let Some(p) = self.size else {
+            return;
+        };
+        let Some(line) = fitting(e, p) else {
+            self.size = None;
+            return;
+        };
+        self.size = Some(put_entry(self.records, p, e, line));
+    }
+
+    // Prints a text, also one of no bytes. It is stored once its record is: where that does not fit, nothing is.
+    pub fn print_text(&mut self, s: &[u8])
+        ensures { SaysIn self (text s.now ∷ []) }
+    {
+        let Some(p) = self.size else {
+            return;
+        };
+        self.emit(text_entry(p.texts, s.len()));
+        if self.size.is_some() {
+            put_bytes(self.texts, p.texts as usize, s);
+        }
+    }
+
+    // Prints an item without operands.
+    pub fn print_signal(&mut self, s: Signal)
+        ensures { SaysIn self (signal s ∷ []) }
+    {
+        self.emit(plain(signal_kind(s), 0, 0));
+    }
 }

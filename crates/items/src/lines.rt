@@ -9,31 +9,14 @@ use super::{AGAIN, IF, MARK, RUN, TEXT};
 // The first operand of a condition on lines.
 pub const LINES: u32 = 1;
 
-// How many digits a number below 10,000 has.
-fn few_digits(n: u32) -> u64
-    requires { n < 10000 }
-    ensures { result ≡ length (decimal n) }
-{
-    if n < 10 {
-        return 1;
-    }
-    if n < 100 {
-        return 2;
-    }
-    if n < 1_000 { 3 } else { 4 }
-}
-
-// How many digits a number has, four at once: most are small, and are counted without a division.
+// How many digits a number has.
 fn decimal_length(n: u32) -> u64
     ensures { result ≡ length (decimal n) }
 {
-    let mut digits: u64 = 0;
-    let mut rest = n;
-    while 10_000 <= rest {
-        digits += 4;
-        rest /= 10_000;
+    match n.checked_ilog10() {
+        Some(k) => k as u64 + 1,
+        None => 1,
     }
-    digits + few_digits(rest)
 }
 
 // The length of a name and a number.
@@ -47,7 +30,7 @@ pub fn field_length(t: Table, w: u32, n: u32) -> u64
 pub fn has_number(kind: u32) -> bool
     ensures { result ≡ has_number kind }
 {
-    (kind == MARK) | ((RUN <= kind) & (kind <= AGAIN))
+    matches!(kind, MARK | RUN..=AGAIN)
 }
 
 // The length of what lists a record's kind and operands.

@@ -131,10 +131,8 @@ fn put_lines(out: &mut [u8], at: usize, records: &[u32], texts: &[u8], n: u32) -
     ensures { WritesIn out at result (lines_from records.now texts.now 0 n) }
 {
     let mut next = at;
-    let mut i = 0;
-    while i < n {
+    for i in 0..n {
         next = put_line(out, next, records, texts, i);
-        i += 1;
     }
     next
 }

@@ -1,8 +1,10 @@
 -- Document 02, Ask 1: 'Beside the plain mode add a keeping mode, chosen by the caller'.
-use Rattle.std.specs.Prelude.{Bool, true, false, cond, ℕ, eqb}
+use Rattle.std.specs.Prelude.{◌≡◌, Bool, true, false, cond, ℕ, eqb, Ok, Err}
+use Rattle.std.specs.declared.result.Result.{Result}
 use Rattle.std.proofs.Math.Option.{Option, none, some}
 use Rattle.numbers.specs.declared.mode.Mode.{Mode}
 use Rattle.numbers.specs.declared.mode.Mode.TheVariants.{Plain, Keeping}
+use Rattle.numbers.specs.declared.mode.UnknownMode.{UnknownMode}
 
 -- it is the keeping mode
 abbrev pub keeps : Mode → Bool
@@ -21,3 +23,12 @@ mode_of n = cond (eqb n 0) (some Plain) (cond (eqb n 1) (some Keeping) none)
 -- the mode with a number; the plain one where none has it
 abbrev pub mode_at : ℕ → Mode
 mode_at n = cond (eqb n 1) Keeping Plain
+
+-- the mode that was found, if any
+abbrev pub found : Result Mode UnknownMode → Option Mode
+found (Ok m) = some m
+found (Err e) = none
+
+-- what is found by a number is the mode with it, or that none has it
+abbrev pub Chooses : ℕ → Result Mode UnknownMode → Type 0
+Chooses n r = found r ≡ mode_of n

@@ -1,4 +1,5 @@
 // The kinds of elements that the code names, by the Rust's names; nodes first, then tokens. `Operator` tokens: binary only, unary only, either.
+// Numbers and no enum: an image and its lent index hold numbers, and a class of kinds is a range of them.
 
 // Nodes: 1 to 56.
 pub const FIRST_NODE: u32 = SOURCE_FILE;

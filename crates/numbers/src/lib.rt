@@ -5,7 +5,6 @@
 pub mod kind;
 pub mod mode;
 pub mod refusal;
-pub mod wide;
 
 // The number of a line mark: run k has the marks 2k and 2k + 1.
 #[derive(Clone, Copy)]

@@ -29,33 +29,37 @@ pub struct Refusal {
     pub element: Element,
 }
 
-// A refusal that names no element.
-pub fn whole(reason: Reason) -> Refusal
-    ensures { result ≡ record { reason = reason; element = record { 0 = 0 } } }
-{
-    Refusal {
-        reason,
-        element: Element(0),
+// A reason that names no element.
+impl From<Reason> for Refusal {
+    ghost from_gives = { λ reason r. r ≡ record { reason = reason; element = record { 0 = 0 } } };
+
+    fn from(reason: Reason) -> Refusal {
+        Refusal {
+            reason,
+            element: Element(0),
+        }
     }
 }
 
 // The number of a reason.
-pub fn number_of(reason: Reason) -> u32
-    ensures { result ≡ number_of reason }
-{
-    match reason {
-        Reason::WrongLength => 1,
-        Reason::OutOfLimits => 2,
-        Reason::UnknownKind => 3,
-        Reason::Misplaced => 4,
-        Reason::WrongSize => 5,
-        Reason::NotUtf8 => 6,
-        Reason::StringBlock => 7,
-        Reason::Misformed => 8,
-        Reason::Nameless => 9,
-        Reason::Stopped => 10,
-        Reason::RecordsTooShort => 11,
-        Reason::TextsTooShort => 12,
-        Reason::ListingTooShort => 13,
+impl From<Reason> for u32 {
+    ghost from_gives = { λ reason n. n ≡ number_of reason };
+
+    fn from(reason: Reason) -> u32 {
+        match reason {
+            Reason::WrongLength => 1,
+            Reason::OutOfLimits => 2,
+            Reason::UnknownKind => 3,
+            Reason::Misplaced => 4,
+            Reason::WrongSize => 5,
+            Reason::NotUtf8 => 6,
+            Reason::StringBlock => 7,
+            Reason::Misformed => 8,
+            Reason::Nameless => 9,
+            Reason::Stopped => 10,
+            Reason::RecordsTooShort => 11,
+            Reason::TextsTooShort => 12,
+            Reason::ListingTooShort => 13,
+        }
     }
 }

@@ -1,14 +1,19 @@
 -- Planners' contracts composed.
-use Rattle.std.specs.Prelude.{◌≡◌, ℕ, ◌≤◌, Bool, true, false, eqb, ◌⊎◌, List, [], ◌++◌, length}
+use Rattle.std.specs.Prelude.{◌≡◌, ℕ, ◌≤◌, Bool, true, false, ◌⊎◌, List, [], ◌++◌, length, Some, None, IsSome}
+use Rattle.std.specs.declared.option.Option.{Option}
 use mathlib.Core.Path.{refl, sym, ap, ◌∙◌}
 use mathlib.Core.Logic.{inl, inr, ⊎_elim}
 use mathlib.Core.List.{append_assoc, append-nil}
 use native.Mathlib.Omega.{arith}
-use borrow.Author.Tests.{ne_eqb}
+use mathlib.Core.Bool.{false≢true}
 use Rattle.numbers.specs.Mode.{keeps}
 use Rattle.items.specs.Item.{Item, Out, stop, ok, Context, Print, after, next, ◌⨟◌, none, when, keeping, with_number}
-use Rattle.plan.specs.Ops.{Source}
-use Rattle.plan.specs.Plans.{Planned, halted, full, planned, joined, planning, Held, held, status, stopped_at, next_run, context_at, items_at, told, seen, items_in, Kept, Begins, Short, Reaches, Frame, Plans}
+use Rattle.numbers.specs.declared.Element.{Element}
+use Rattle.plan.specs.declared.Halt.{Halt}
+use Rattle.plan.specs.declared.Halt.TheVariants.{Stopped, Full}
+use Rattle.plan.specs.declared.Planner.{Planner}
+use Rattle.tree.specs.Source.{Source}
+use Rattle.plan.specs.Plans.{Planned, halted, full, planned, joined, planning, context_at, items_at, told, seen, items_in, Kept, Begins, Short, Reaches, Frame, Plans}
 use Rattle.plan.specs.Load.{load}
 use Rattle.plan.proofs.Loads.{load-append}
 
@@ -38,71 +43,63 @@ planning-none (halted xs e) = refl
 planning-none (full xs) = refl
 planning-none (planned xs c k) = rw (append-nil xs)
 
--- ---- what is seen, by the status
+-- ---- what is seen, by whether planning goes on
 
-module _ (s : Source) (h : Held) where
-  pub seen-going : status h ≡ 0 → seen s h ≡ planned (items_at s h) (context_at h) (next_run h)
-  unfolding seen
+module _ (s : Source) (h : Planner) where
+  pub seen-going : h.halt ≡ None → seen s h ≡ planned (items_at s h) (context_at h) h.runs
+  unfolding seen told
   seen-going g = rw g
 
-  pub seen-stopped : status h ≡ 1 → seen s h ≡ halted (items_at s h) (stopped_at h)
-  unfolding seen
+  pub seen-stopped : {e : Element} → h.halt ≡ Some (Stopped e) → seen s h ≡ halted (items_at s h) e.0
+  unfolding seen told
   seen-stopped g = rw g
 
-  pub seen-full : (status h ≡ 0 → ⊥) → (status h ≡ 1 → ⊥) → seen s h ≡ full (items_at s h)
-  unfolding seen
-  seen-full e f = rw (ne_eqb (status h) 0 e, ne_eqb (status h) 1 f)
+  pub seen-full : h.halt ≡ Some Full → seen s h ≡ full (items_at s h)
+  unfolding seen told
+  seen-full g = rw g
 
   -- planning that does not go on stays as it is
-  pub seen-still : (q : Print) → (status h ≡ 0 → ⊥) → planning q (seen s h) ≡ seen s h
-  unfolding seen planning
-  seen-still q n = rw (ne_eqb (status h) 0 n) (go (eqb (status h) 1))
+  pub seen-still : (q : Print) → IsSome h.halt → planning q (seen s h) ≡ seen s h
+  unfolding seen told planning
+  seen-still q n = go h.halt n
     where
-      go : (b : Bool) → let x = told false b (items_at s h) (context_at h) (next_run h) (stopped_at h) in planning q x ≡ x
-      go true = refl
-      go false = refl
+      go : (o : Option Halt) → IsSome o → let x = told o (items_at s h) (context_at h) h.runs in planning q x ≡ x
+      go None i = absurd (false≢true i)
+      go (Some (Stopped e)) i = refl
+      go (Some Full) i = refl
 
   -- planning that goes on is not full, and only that is seen as planned
-  pub going-full : status h ≡ 0 → {xs : List Item} → seen s h ≡ full xs → ⊥
-  going-full g {xs} e = let d : planned (items_at s h) (context_at h) (next_run h) ≡ full xs = sym (seen-going g) ∙ e in let z : ◌≡◌ {A = ℕ} 0 1 = cc in omega arith
+  pub going-full : h.halt ≡ None → {xs : List Item} → seen s h ≡ full xs → ⊥
+  going-full g {xs} e = let d : planned (items_at s h) (context_at h) h.runs ≡ full xs = sym (seen-going g) ∙ e in let z : ◌≡◌ {A = ℕ} 0 1 = cc in omega arith
 
-  pub ended-going : (status h ≡ 0 → ⊥) → {xs : List Item} {c : Context} {k : ℕ} → seen s h ≡ planned xs c k → ⊥
-  unfolding seen
-  ended-going n {xs} {c} {k} e = go (eqb (status h) 1) (rw (ne_eqb (status h) 0 n) at e)
+  pub ended-going : IsSome h.halt → {xs : List Item} {c : Context} {k : ℕ} → seen s h ≡ planned xs c k → ⊥
+  unfolding seen told
+  ended-going n {xs} {c} {k} e = go h.halt n e
     where
-      go : (b : Bool) → told false b (items_at s h) (context_at h) (next_run h) (stopped_at h) ≡ planned xs c k → ⊥
-      go true d = let z : ◌≡◌ {A = ℕ} 0 1 = cc in omega arith
-      go false d = let z : ◌≡◌ {A = ℕ} 0 1 = cc in omega arith
+      go : (o : Option Halt) → IsSome o → told o (items_at s h) (context_at h) h.runs ≡ planned xs c k → ⊥
+      go None i d = false≢true i
+      go (Some (Stopped x)) i d = let z : ◌≡◌ {A = ℕ} 0 1 = cc in omega arith
+      go (Some Full) i d = let z : ◌≡◌ {A = ℕ} 0 1 = cc in omega arith
 
 -- ---- what stays
 
-pub frame-none : (o : Held) → Frame o o
-frame-none o = record {
-  still = λ n. refl;
-  before = λ i l. refl;
-  past = λ i l. refl;
-  grown = omega arith;
-  unstopped = λ n. refl;
-  free = λ i l. refl;
-  known = λ l. l;
-  same_cells = refl;
-}
+pub frame-none : (o : Planner) → Frame o o
+frame-none o = record { still = λ n. refl; before = λ i l. refl; past = λ i l. refl; grown = omega arith; mode = refl; same_ops = refl; lent = refl }
 
-pub frame-both : {o a b : Held} → Frame o a → Frame a b → Frame o b
+pub frame-both : {o a b : Planner} → Frame o a → Frame a b → Frame o b
 frame-both {o} {a} {b} h k = record {
-  still = λ n. let e = h.still n in k.still (λ z. n (cc)) ∙ e;
+  still = λ n. let e = h.still n in k.still (rw e n) ∙ e;
   before = λ i l. k.before i (omega (arith, h.grown)) ∙ h.before i l;
   past = λ i l. k.past i l ∙ h.past i (omega (arith, k.grown));
   grown = omega (arith, h.grown, k.grown);
-  unstopped = λ n. k.unstopped n ∙ h.unstopped (λ e. let d = k.still (λ z. omega (arith, e, z)) in n (cc));
-  free = λ i l. k.free i l ∙ h.free i l;
-  known = λ l. k.known (h.known l);
-  same_cells = k.same_cells ∙ h.same_cells;
+  mode = k.mode ∙ h.mode;
+  same_ops = k.same_ops ∙ h.same_ops;
+  lent = k.lent ∙ h.lent;
 }
 
 -- nothing planned
-pub idle : {s : Source} {o : Held} → Plans s none o o
-idle {s} {o} = record { ran = λ l. record { got = inl (sym (planning-none (seen s o))) }; same_ops = refl; frame = λ l. frame-none o; tidy = λ k. k }
+pub idle : {s : Source} {o : Planner} → Plans s none o o
+idle {s} {o} = record { ran = record { got = inl (sym (planning-none (seen s o))) }; frame = frame-none o; tidy = λ k. k; within = λ l. l }
 
 -- ---- what there is room for
 
@@ -148,55 +145,51 @@ reaches cap t u g x y z p q h k = record { got = rw (planning_seq p q x) (⊎_el
 
 infixr 40 ◌▸◌
 -- one planning after another
-pub ◌▸◌ : {s : Source} {p q : Print} {o a b : Held} → Plans s p o a → Plans s q a b → Plans s (p ⨟ q) o b
+pub ◌▸◌ : {s : Source} {p q : Print} {o a b : Planner} → Plans s p o a → Plans s q a b → Plans s (p ⨟ q) o b
 ◌▸◌ {s} {p} {q} {o} {a} {b} h k = record {
-  ran = λ l. reaches (length o.ops) (Kept s o) (Kept s a) h.tidy (seen s o) (seen s a) (seen s b) p q (h.ran l) (rw h.same_ops at (k.ran ((h.frame l).same_cells ∙ l)));
-  same_ops = k.same_ops ∙ h.same_ops;
-  frame = λ l. frame-both (h.frame l) (k.frame ((h.frame l).same_cells ∙ l));
+  ran = reaches (length o.ops.now) (Kept s o) (Kept s a) h.tidy (seen s o) (seen s a) (seen s b) p q h.ran (rw h.frame.same_ops at k.ran);
+  frame = frame-both h.frame k.frame;
   tidy = λ w. k.tidy (h.tidy w);
+  within = λ l. k.within (h.within l);
 }
 
 -- a planning by another name, as where a test picks it
-pub by : {s : Source} {p q : Print} {o a : Held} → p ≡ q → Plans s q o a → Plans s p o a
+pub by : {s : Source} {p q : Print} {o a : Planner} → p ≡ q → Plans s q o a → Plans s p o a
 by e h = rw e h
 
 -- a planning that makes of what is seen what another makes of it
-as_seen : {s : Source} (p q : Print) {o a : Held} → planning p (seen s o) ≡ planning q (seen s o) → Plans s q o a → Plans s p o a
-as_seen p q e h = record { ran = rw e h.ran; same_ops = h.same_ops; frame = h.frame; tidy = h.tidy }
+as_seen : {s : Source} (p q : Print) {o a : Planner} → planning p (seen s o) ≡ planning q (seen s o) → Plans s q o a → Plans s p o a
+as_seen p q e h = record { ran = rw e h.ran; frame = h.frame; tidy = h.tidy; within = h.within }
 
 -- the same of everything
-pub as_planned : {s : Source} (p q : Print) {o a : Held} → ((x : Planned) → planning p x ≡ planning q x) → Plans s q o a → Plans s p o a
+pub as_planned : {s : Source} (p q : Print) {o a : Planner} → ((x : Planned) → planning p x ≡ planning q x) → Plans s q o a → Plans s p o a
 as_planned {s} p q {o} e h = as_seen p q (e (seen s o)) h
 
--- where two ways meet: what an arm left is what stands there
-pub met : {s : Source} {p : Print} {o : Held} {xs xs' cs cs' : List ℕ} → xs ≡ xs' → cs ≡ cs' → Plans s p o (held xs' cs') → Plans s p o (held xs cs)
-met e₁ e₂ h = rw (e₁, e₂) h
-
-number_is : (f : ℕ → Print) (s : Source) (h : Held) → planning (with_number f) (seen s h) ≡ planning (f (next_run h)) (seen s h)
-unfolding seen planning with_number
-number_is f s h = go (eqb (status h) 0) (eqb (status h) 1)
+number_is : (f : ℕ → Print) (s : Source) (h : Planner) → planning (with_number f) (seen s h) ≡ planning (f h.runs) (seen s h)
+unfolding seen told planning with_number
+number_is f s h = go h.halt
   where
-    go : (a b : Bool) → let x = told a b (items_at s h) (context_at h) (next_run h) (stopped_at h) in planning (with_number f) x ≡ planning (f (next_run h)) x
-    go true b = refl
-    go false true = refl
-    go false false = refl
+    go : (o : Option Halt) → let x = told o (items_at s h) (context_at h) h.runs in planning (with_number f) x ≡ planning (f h.runs) x
+    go None = refl
+    go (Some (Stopped e)) = refl
+    go (Some Full) = refl
 
 -- a planner that has read the next list's number plans what knows it
-pub numbers : {s : Source} (f : ℕ → Print) {o a : Held} {k : ℕ} → k ≡ next_run o → Plans s (f k) o a → Plans s (with_number f) o a
+pub numbers : {s : Source} (f : ℕ → Print) {o a : Planner} {k : ℕ} → k ≡ o.runs → Plans s (f k) o a → Plans s (with_number f) o a
 numbers {s} f {o} {a} {k} e h = as_seen (with_number f) (f k) (number_is f s o ∙ rw (← e) refl) h
 
-keeping_is : (p : Print) (s : Source) (h : Held) → planning (keeping p) (seen s h) ≡ planning (when (keeps (context_at h).mode) p) (seen s h)
-unfolding seen planning keeping
-keeping_is p s h = go (eqb (status h) 0) (eqb (status h) 1)
+keeping_is : (p : Print) (s : Source) (h : Planner) → planning (keeping p) (seen s h) ≡ planning (when (keeps h.mode) p) (seen s h)
+unfolding seen told planning keeping
+keeping_is p s h = go h.halt
   where
-    go : (a b : Bool) → let x = told a b (items_at s h) (context_at h) (next_run h) (stopped_at h) in planning (keeping p) x ≡ planning (when (keeps (context_at h).mode) p) x
-    go true b = refl
-    go false true = refl
-    go false false = refl
+    go : (o : Option Halt) → let x = told o (items_at s h) (context_at h) h.runs in planning (keeping p) x ≡ planning (when (keeps h.mode) p) x
+    go None = refl
+    go (Some (Stopped e)) = refl
+    go (Some Full) = refl
 
 -- a planner that has read the mode plans what is kept
-module _ {s : Source} (p : Print) {o : Held} {t : Bool} (i : t ≡ keeps (context_at o).mode) where
-  pub kept : t ≡ true → {a : Held} → Plans s p o a → Plans s (keeping p) o a
+module _ {s : Source} (p : Print) {o : Planner} {t : Bool} (i : t ≡ keeps o.mode) where
+  pub kept : t ≡ true → {a : Planner} → Plans s p o a → Plans s (keeping p) o a
   unfolding when
   kept e h = as_seen (keeping p) p (keeping_is p s o ∙ rw (← i, e) refl) h
 

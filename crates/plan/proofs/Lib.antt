@@ -1,5 +1,5 @@
 -- Laws that belong to no one function. Those of a `pub mod` are cited by other crates.
-mod Cells
+mod Steps
 mod Ends
 pub mod Laws
 pub mod Loads

@@ -1,20 +1,22 @@
--- A whole printing by a plan: all of it is planned, and stops are known from the cells.
-use Rattle.std.specs.Prelude.{◌≡◌, ℕ, ◌-◌, ◌^◌, ◌<◌, ◌≤◌, min, List, [], length}
+-- A whole printing by a plan: all of it is planned, and stops are known from the planner.
+use Rattle.std.specs.Prelude.{◌≡◌, ℕ, ◌-◌, ◌^◌, ◌<◌, ◌≤◌, min, List, [], length, Some, None}
 use mathlib.Core.Path.{refl, sym, ap, ◌∙◌}
 use mathlib.Core.Logic.{⊎_elim}
 use native.Mathlib.Omega.{arith}
 use Rattle.text.specs.Basic.{sum}
+use Rattle.std.specs.Borrow.{MutBor}
+use Rattle.numbers.specs.declared.Element.{Element}
 use Rattle.numbers.specs.declared.mode.Mode.{Mode}
-use Rattle.numbers.specs.declared.mode.Mode.TheVariants.{Plain, Keeping}
+use Rattle.plan.specs.declared.Halt.TheVariants.{Stopped, Full}
+use Rattle.plan.specs.declared.Planner.{Planner}
 use Rattle.items.specs.Item.{Item, Out, stop, ok, Context, in_mode, Print}
 use Rattle.items.proofs.Fits.{items_of}
-use Rattle.items.specs.Role.{runs_of}
-use Rattle.plan.specs.Ops.{Source, decoded}
+use Rattle.plan.specs.Ops.{decoded}
+use Rattle.tree.specs.Source.{Source}
 use Rattle.plan.specs.Load.{load}
-use Rattle.plan.proofs.Loads.{length-load}
 use Rattle.plan.proofs.Laws.{seen-full}
 use Rattle.plan.proofs.Ends.{going-leaves, stop-leaves}
-use Rattle.plan.specs.Plans.{Planned, halted, full, planned, joined, planning, Held, held, status, stopped_at, count, next_run, items_at, seen, no_cells, items_in, Kept, Plans}
+use Rattle.plan.specs.Plans.{Planned, halted, full, planned, joined, planning, fresh, items_at, told, seen, items_in, Kept, Plans}
 
 -- which of the three it is, the items, and the number
 abbrev tag : Planned → ℕ
@@ -47,7 +49,7 @@ unfolding joined
 joined-halted c (stop ys n) xs e h = let i : xs ≡ ys = ap items_in h in let j : e ≡ n = ap number h in rw (i, j) refl
 joined-halted c (ok ys k) xs e h = let z : ◌≡◌ {A = ℕ} 1 0 = ap tag h in absurd (omega arith)
 
-module _ (s : Source) (q : Print) (m : Mode) (ops : List ℕ) (a : Held) (h : Plans s q (held ops (no_cells m)) a) (eight : length a.cells ≡ 8) where
+module _ (s : Source) (q : Print) (b : MutBor (List ℕ)) (m : Mode) (a : Planner) (h : Plans s q (fresh b m) a) where
   abbrev xs : List Item
   xs = items_at s a
 
@@ -55,35 +57,32 @@ module _ (s : Source) (q : Print) (m : Mode) (ops : List ℕ) (a : Held) (h : Pl
   abbrev whole : Out
   whole = q (in_mode m) 0
 
-  start : planning q (seen s (held ops (no_cells m))) ≡ joined [] (in_mode m) whole
-  unfolding seen planning decoded
-  start = go m
-    where
-      go : (m : Mode) → planning q (seen s (held ops (no_cells m))) ≡ joined [] (in_mode m) (q (in_mode m) 0)
-      go Plain = refl
-      go Keeping = refl
+  start : planning q (seen s (fresh b m)) ≡ joined [] (in_mode m) whole
+  unfolding seen told planning decoded
+  start = refl
 
-  tidy : Kept s (held ops (no_cells m))
+  tidy : Kept s (fresh b m)
   unfolding decoded sum
-  tidy = record { eight = refl; runs = refl; few = omega arith }
+  tidy = record { runs = refl; few = omega arith }
 
   -- a plan that stopped did so where the printing does
-  pub stopped-there : status a ≡ 1 → whole ≡ stop xs (stopped_at a)
-  stopped-there g = joined-halted (in_mode m) whole xs (stopped_at a) (sym (stop-leaves h refl g) ∙ start)
+  pub stopped-there : {e : Element} → a.halt ≡ Some (Stopped e) → whole ≡ stop xs e.0
+  stopped-there {e} g = joined-halted (in_mode m) whole xs e.0 (sym (stop-leaves h g) ∙ start)
 
   -- a plan that goes on holds all of the printing's items, and has counted its runs
-  pub planned-all : status a ≡ 0 → whole ≡ ok xs (next_run a)
-  planned-all g = joined-planned (in_mode m) whole xs (next_run a) (sym (going-leaves h refl g) ∙ start)
+  pub planned-all : a.halt ≡ None → whole ≡ ok xs a.runs
+  planned-all g = joined-planned (in_mode m) whole xs a.runs (sym (going-leaves h g) ∙ start)
 
-  pub runs-counted : status a ≡ 0 → next_run a ≡ runs_of xs
-  runs-counted g = (h.tidy tidy).runs
+  -- its operations lie in the array
+  pub in_array : a.operations ≤ length a.ops.now
+  in_array = h.within (omega arith)
+
+  -- its runs are counted
+  pub kept : Kept s a
+  kept = h.tidy tidy
 
   -- in an array with room
-  module _ (room : load (items_of whole) < min (length ops) (2 ^ 32 - 1)) where
+  module _ (room : load (items_of whole) < min (length b.now) (2 ^ 32 - 1)) where
     -- planning goes on or stopped
-    pub never-full : (status a ≡ 0 → ⊥) → (status a ≡ 1 → ⊥) → ⊥
-    never-full e f = ⊎_elim (λ i. joined-tag (in_mode m) whole xs (sym (seen-full s a e f) ∙ i ∙ start)) (λ i. omega (arith, room, rw (start, joined_items (in_mode m) whole) at (i.over tidy))) (h.ran refl).got
-
-    -- all operations lie in the array
-    pub in_array : status a ≡ 0 → count a ≤ length ops
-    in_array g = let i : items_of whole ≡ xs = ap items_of (planned-all g) in omega (arith, (h.tidy tidy).few, length-load xs, rw i at room)
+    pub never-full : a.halt ≡ Some Full → ⊥
+    never-full e = ⊎_elim (λ i. joined-tag (in_mode m) whole xs (sym (seen-full s a e) ∙ i ∙ start)) (λ i. omega (arith, room, rw (start, joined_items (in_mode m) whole) at (i.over tidy))) h.ran.got

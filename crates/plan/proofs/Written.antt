@@ -1,20 +1,23 @@
 -- What the writer of a plan shows.
-use Rattle.std.specs.Prelude.{◌≡◌, ℕ, zero, suc, ◌+◌, ◌/◌, ◌%◌, ◌<◌, ◌≤◌, Bool, true, false, ltb, List, [], ◌∷◌, get_or}
-use mathlib.Core.Path.{refl, ap, ◌∙◌}
+use Rattle.std.specs.Prelude.{◌≡◌, ℕ, zero, suc, ◌+◌, ◌/◌, ◌%◌, ◌<◌, ◌≤◌, Bool, true, false, ltb, List, [], ◌∷◌, get_or, Option, Some, None, IsSome}
+use Rattle.std.specs.Borrow.{MutBor}
+use mathlib.Core.Path.{refl, sym, ap, ◌∙◌}
 use native.Mathlib.Omega.{arith}
+use lib.ListN.{length, take}
+use lib.Seq.{get_or-take, length-take-le}
 use native.Mathlib.Numerals.{add-one}
 use borrow.Author.Tests.{ne_eqb, le-leb, lt-leb, ltb-true, ltb-false}
 use Rattle.text.specs.Basic.{ascii}
 use Rattle.items.specs.Item.{Item, text, plain_item}
+use Rattle.items.specs.declared.Output.{Output}
 use Rattle.items.specs.declared.Size.{Size}
-use Rattle.items.specs.Machine.{all_fit, sized, no_size, Puts, held, Says}
-use Rattle.items.specs.declared.Printed.{Printed}
-use Rattle.items.specs.declared.Printed.TheVariants.{Done, Full}
+use Rattle.items.specs.Machine.{all_fit, sized, no_size, Puts, output, Says}
 use Rattle.items.proofs.Fits.{sized-none, sized-append, puts_none, puts-append, fit_append, said-puts, said-done}
 use Rattle.comments.specs.Comments.{Location, end_of_items, comment}
 use Rattle.tree.specs.Index.{kind_at}
 use Rattle.plan.specs.Words.{word_at}
-use Rattle.plan.specs.Ops.{Source, token, note, place_by, expand, op_items, decoded}
+use Rattle.plan.specs.Ops.{token, note, place_by, expand, op_items, decoded}
+use Rattle.tree.specs.Source.{Source}
 
 -- ---- an operation by its kind
 
@@ -56,18 +59,26 @@ place_else k e f = rw (ne_eqb k 19 e, ne_eqb k 20 f) refl
 pub noted : (s : Source) (t : ℕ) {l m : Location} → l ≡ m → note s t l ≡ note s t m
 noted s t e = rw e refl
 
-module _ (s : Source) (t : ℕ) (loc : Location) {k : ℕ} {ys : List ℕ} {rs ts rs' ts' : List ℕ} {z : Size} {p r : Printed}
+-- printed in lent buffers from a size on
+module _ (s : Source) (t : ℕ) (loc : Location) {k : ℕ} {ys : List ℕ} {rs ts : MutBor (List ℕ)} {z : Size} {a : Output} {r : Option Size}
     (i : k ≡ kind_at s.index t)
     (j : ys ≡ token s t)
     (f : all_fit (note s t loc) z ≡ true)
-    (g : p ≡ Done z)
-    (h : Says (comment k ys loc) (held rs ts p) (held rs' ts' r)) where
-  pub note-puts : {d : Size} → r ≡ Done d → Puts (note s t loc) rs ts z rs' ts' d
-  note-puts e = said-puts (note s t loc) f g (rw (i, j) at h) e
+    (h : Says (comment k ys loc) (output rs ts (Some z)) a)
+    (q : r ≡ a.size) where
+  said : Says (note s t loc) (output rs ts (Some z)) a
+  said = rw (i, j) at h
+
+  pub note-puts : {d : Size} {rs' ts' : List ℕ} → r ≡ Some d → rs' ≡ a.records.now → ts' ≡ a.texts.now → Puts (note s t loc) rs.now ts.now z rs' ts' d
+  note-puts e u v = rw (u, v) (said-puts (note s t loc) f refl said (sym q ∙ e))
 
   -- it comes to its end
-  pub note-never : {A : Type 0} → r ≡ Full → A
-  note-never e = absurd (said-done (note s t loc) f g (rw (i, j) at h) e)
+  pub note-some : IsSome r
+  note-some = go r refl
+    where
+      go : (o : Option Size) → r ≡ o → IsSome o
+      go (Some d) e = refl
+      go None e = absurd (said-done (note s t loc) f refl said (sym q ∙ e))
 
 -- what is put by another name
 pub puts_as : {xs ys : List Item} {rs ts rs' ts' : List ℕ} {p d : Size} → xs ≡ ys → Puts ys rs ts p rs' ts' d → Puts xs rs ts p rs' ts' d
@@ -93,6 +104,10 @@ fit_at s ops l (suc n) i h f = go (ltb i n) refl (fit_append (decoded s ops n) (
     go true e (p, q) k = k (ltb-true i n e) p
     go false e (p, q) k = let z : i ≡ n = omega (arith, h, ltb-false i n e) in rw z q
 
+-- a place among the first n operations
+in_front : (ops : List ℕ) (n i : ℕ) → n ≤ length ops → i < length (take n ops) → (i < n) × (get_or (take n ops) i 0 ≡ get_or ops i 0)
+in_front ops n i b h = let k : i < n = omega (arith, length-take-le n ops b) in (k, get_or-take n ops i 0 k)
+
 -- The first i operations are counted.
 pub record Counting (s : Source) (ops : List ℕ) (n : ℕ) (l : Bool) (p : Size) (i : ℕ) : Type 0 where
   pub within : i ≤ n
@@ -103,17 +118,19 @@ pub counting-none : (s : Source) (ops : List ℕ) (n : ℕ) (l : Bool) {p : Size
 unfolding decoded
 counting-none s ops n l e f = record { within = omega arith; fits = f; so_far = e ∙ sized-none (no_size l) }
 
-module _ {s : Source} {ops : List ℕ} {n : ℕ} {l : Bool} {p : Size} {i : ℕ} (w : Counting s ops n l p i) where
+module _ {s : Source} {ops : List ℕ} {n : ℕ} {l : Bool} {p : Size} {i : ℕ} (b : n ≤ length ops) (w : Counting s ops n l p i) where
   -- the next one fits
-  pub counting-fits : i < n → all_fit (op_items s (get_or ops i 0)) p ≡ true
-  counting-fits h = rw w.so_far (fit_at s ops l n i h w.fits)
+  pub counting-fits : i < length (take n ops) → all_fit (op_items s (get_or (take n ops) i 0)) p ≡ true
+  counting-fits h = let (k, o) = in_front ops n i b h in rw (o, w.so_far) (fit_at s ops l n i k w.fits)
 
-  pub counting_more : i < n → {d : Size} → d ≡ sized (op_items s (get_or ops i 0)) p → Counting s ops n l d (i + 1)
+  pub counting_more : i < length (take n ops) → {d : Size} → d ≡ sized (op_items s (get_or (take n ops) i 0)) p → Counting s ops n l d (i + 1)
   unfolding decoded
-  counting_more h e = rw (add-one i) (record { within = omega (arith, h); fits = w.fits; so_far = rw w.so_far at e ∙ sized-append (decoded s ops i) (op_items s (get_or ops i 0)) (no_size l) })
+  counting_more h e =
+      let (k, o) = in_front ops n i b h in
+      rw (add-one i) (record { within = omega (arith, k); fits = w.fits; so_far = rw (o, w.so_far) at e ∙ sized-append (decoded s ops i) (op_items s (get_or ops i 0)) (no_size l) })
 
-  pub counting-all_lem : n ≤ i → p ≡ sized (decoded s ops n) (no_size l)
-  counting-all_lem h = let e : n ≡ i = omega (arith, h, w.within) in rw e w.so_far
+  pub counting-all_lem : length (take n ops) ≤ i → p ≡ sized (decoded s ops n) (no_size l)
+  counting-all_lem h = let e : n ≡ i = omega (arith, h, w.within, length-take-le n ops b) in rw e w.so_far
 
 -- The first i operations are written, and so counted.
 pub record Writing (s : Source) (ops : List ℕ) (n : ℕ) (rs ts rs' ts' : List ℕ) (p : Size) (i : ℕ) : Type 0 where
@@ -124,14 +141,14 @@ pub writing_none : (s : Source) (ops : List ℕ) (n : ℕ) (rs ts : List ℕ) {p
 unfolding decoded
 writing_none s ops n rs ts e f = record { counts = counting-none s ops n false e f; so_far = rw e (puts_none rs ts (no_size false)) }
 
-module _ {s : Source} {ops : List ℕ} {n : ℕ} {rs ts rs' ts' : List ℕ} {p : Size} {i : ℕ} (w : Writing s ops n rs ts rs' ts' p i) where
+module _ {s : Source} {ops : List ℕ} {n : ℕ} {rs ts rs' ts' : List ℕ} {p : Size} {i : ℕ} (b : n ≤ length ops) (w : Writing s ops n rs ts rs' ts' p i) where
   -- the next one fits, and records are not listed
-  pub writing-fits : i < n → (p.listed ≡ false) × (all_fit (op_items s (get_or ops i 0)) p ≡ true)
-  writing-fits h = (ap Size.listed w.counts.so_far, counting-fits w.counts h)
+  pub writing-fits : i < length (take n ops) → (p.listed ≡ false) × (all_fit (op_items s (get_or (take n ops) i 0)) p ≡ true)
+  writing-fits h = (ap Size.listed w.counts.so_far, counting-fits b w.counts h)
 
-  pub writing_more : i < n → {rs'' ts'' : List ℕ} {d : Size} → Puts (op_items s (get_or ops i 0)) rs' ts' p rs'' ts'' d → Writing s ops n rs ts rs'' ts'' d (i + 1)
+  pub writing_more : i < length (take n ops) → {rs'' ts'' : List ℕ} {d : Size} → Puts (op_items s (get_or (take n ops) i 0)) rs' ts' p rs'' ts'' d → Writing s ops n rs ts rs'' ts'' d (i + 1)
   unfolding decoded
-  writing_more h k = record { counts = counting_more w.counts h k.size; so_far = rw (add-one i) (puts-append w.so_far k) }
+  writing_more h k = record { counts = counting_more b w.counts h k.size; so_far = rw (add-one i) (puts-append w.so_far (rw (in_front ops n i b h).1 at k)) }
 
-  pub writing_all : n ≤ i → Puts (decoded s ops n) rs ts (no_size false) rs' ts' p
-  writing_all h = let e : n ≡ i = omega (arith, h, w.counts.within) in rw e w.so_far
+  pub writing_all : length (take n ops) ≤ i → Puts (decoded s ops n) rs ts (no_size false) rs' ts' p
+  writing_all h = let e : n ≡ i = omega (arith, h, w.counts.within, length-take-le n ops b) in rw e w.so_far

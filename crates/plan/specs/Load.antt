@@ -3,7 +3,8 @@ use Rattle.std.specs.Prelude.{◌≡◌, ℕ, ◌^◌, ◌≤◌, cond, List, le
 use Rattle.text.specs.Basic.{sum}
 use Rattle.items.specs.Item.{always, lines, Item, text, signal, mark, run, run_end, again, if_test}
 use Rattle.items.specs.Role.{runs_of}
-use Rattle.plan.specs.Ops.{Source, expand, operand_limit}
+use Rattle.plan.specs.Ops.{expand, operand_limit}
+use Rattle.tree.specs.Source.{Source}
 
 -- the mark, run or start mark that an item names; 0 where it names none
 abbrev pub number_in : Item → ℕ

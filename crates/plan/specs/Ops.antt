@@ -4,15 +4,8 @@ use Rattle.text.specs.Basic.{ascii}
 use Rattle.items.specs.Item.{Item, text, plain_item}
 use Rattle.comments.specs.Comments.{Location, above_item, item_inline, end_of_items, comment}
 use Rattle.tree.specs.Index.{kind_at, text_at}
+use Rattle.tree.specs.Source.{Source}
 use Rattle.plan.specs.Words.{word_at}
-
--- What operations refer to: the tree with this image and this index.
-pub record Source : Type 0 where
-  pub image : List ℕ
-  pub index : List ℕ
-
-abbrev pub source_at : List ℕ → List ℕ → Source
-source_at image index = record { image = image; index = index }
 
 -- the text of an element
 abbrev pub token : Source → ℕ → List ℕ

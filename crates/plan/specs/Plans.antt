@@ -1,11 +1,19 @@
--- How far planning has come, and the contract of every planner.
-use Rattle.std.specs.Prelude.{◌≡◌, ℕ, suc, ◌-◌, ◌^◌, ◌<◌, ◌≤◌, min, Bool, true, false, ◌⊎◌, List, [], ◌∷◌, ◌++◌, length, ◌==◌, ◌≢◌, slice_index}
-use Rattle.text.specs.Lent.{Lent, LentMut}
+-- How far planning has come, and the contract of every call that plans.
+use Rattle.std.specs.Prelude.{◌≡◌, ℕ, suc, ◌-◌, ◌^◌, ◌<◌, ◌≤◌, min, ◌⊎◌, List, ◌++◌, length, slice_index, Some, None, IsSome, Ok, Err}
+use Rattle.std.specs.declared.option.Option.{Option}
+use Rattle.std.specs.declared.result.Result.{Result}
+use Rattle.std.specs.Borrow.{MutBor}
+use denote.Triple.Both.{Both}
+use Rattle.tree.specs.Source.{LentTree}
+use Rattle.plan.specs.declared.Halt.{Halt}
+use Rattle.plan.specs.declared.Halt.TheVariants.{Stopped, Full}
+use Rattle.plan.specs.declared.Plan.{Plan}
+use Rattle.plan.specs.declared.Planner.{Planner}
 use Rattle.numbers.specs.declared.mode.Mode.{Mode}
-use Rattle.numbers.specs.Mode.{mode_number, mode_at}
 use Rattle.items.specs.Item.{Item, Out, stop, ok, Context, Print}
 use Rattle.items.specs.Role.{runs_of}
-use Rattle.plan.specs.Ops.{Source, source_at, decoded}
+use Rattle.plan.specs.Ops.{decoded}
+use Rattle.tree.specs.Source.{Source}
 use Rattle.plan.specs.Load.{load}
 
 -- How far planning has come: the items before the element at which it stopped, those before there was no room, or the items, the context and the next list's number.
@@ -25,47 +33,35 @@ planning q (halted xs e) = halted xs e
 planning q (full xs) = full xs
 planning q (planned xs c k) = joined xs c (q c k)
 
--- What a planner is handed and what it leaves: the operations, and the cells.
-pub record Held : Type 0 where
-  pub ops : List ℕ
-  pub cells : List ℕ
+-- a planner before its first operation, in a mode
+abbrev pub fresh : MutBor (List ℕ) → Mode → Planner
+fresh ops m = record { ops = ops; halt = None; operations = 0; runs = 0; mode = m }
 
-abbrev pub held : List ℕ → List ℕ → Held
-held ops cells = record { ops = ops; cells = cells }
+-- the items of the operations so far
+abbrev pub items_at : Source → Planner → List Item
+items_at s h = decoded s h.ops.now h.operations
 
--- the cells: status (0 going on, 1 stopped, else full), where it stopped, operations, the next list's number, the mode's number
-abbrev pub status : Held → ℕ
-status h = slice_index h.cells 0
+-- in the mode of a planner
+abbrev pub context_at : Planner → Context
+context_at h = record { mode = h.mode }
 
-abbrev pub stopped_at : Held → ℕ
-stopped_at h = slice_index h.cells 1
+-- what a planner says with these items, by whether planning goes on, stopped or found no room
+unfoldable pub told : Option Halt → List Item → Context → ℕ → Planned
+told None xs c k = planned xs c k
+told (Some (Stopped e)) xs c k = halted xs e.0
+told (Some Full) xs c k = full xs
 
-abbrev pub count : Held → ℕ
-count h = slice_index h.cells 2
+-- what is seen of a planner
+unfoldable pub seen : Source → Planner → Planned
+seen s h = told h.halt (items_at s h) (context_at h) h.runs
 
-abbrev pub next_run : Held → ℕ
-next_run h = slice_index h.cells 3
+-- the plan that is made, or why there is none
+abbrev pub made_by : Option Halt → Plan → Result Plan Halt
+made_by None p = Ok p
+made_by (Some e) p = Err e
 
-abbrev pub context_at : Held → Context
-context_at h = record { mode = mode_at (slice_index h.cells 4) }
-
--- before the first operation
-abbrev pub no_cells : Mode → List ℕ
-no_cells m = 0 ∷ 0 ∷ 0 ∷ 0 ∷ mode_number m ∷ 0 ∷ 0 ∷ 0 ∷ []
-
--- the items of the operations
-abbrev pub items_at : Source → Held → List Item
-items_at s h = decoded s h.ops (count h)
-
--- what the cells say, where they say that planning goes on or stopped
-abbrev pub told : Bool → Bool → List Item → Context → ℕ → ℕ → Planned
-told true b xs c k e = planned xs c k
-told false true xs c k e = halted xs e
-told false false xs c k e = full xs
-
--- what is seen of them
-unfoldable pub seen : Source → Held → Planned
-seen s h = told (status h == 0) (status h == 1) (items_at s h) (context_at h) (next_run h) (stopped_at h)
+abbrev pub made : Planner → Result Plan Halt
+made h = made_by h.halt (record { operations = h.operations; runs = h.runs })
 
 -- the items of it
 abbrev pub items_in : Planned → List Item
@@ -73,12 +69,18 @@ items_in (halted xs e) = xs
 items_in (full xs) = xs
 items_in (planned xs c k) = xs
 
--- What planners keep, at every end: there are eight cells, which is not known of lent ones; the next list's number is the number of
--- runs; and there are no more operations than items.
-pub record Kept (s : Source) (h : Held) : Type 0 where
-  pub eight : length h.cells ≡ 8
-  pub runs : next_run h ≡ runs_of (items_at s h)
-  pub few : count h ≤ length (items_at s h)
+-- a planner that does not go on, for the reason that it had, or else for this one
+abbrev pub or_halt : Option Halt → Halt → Option Halt
+or_halt None x = Some x
+or_halt (Some y) x = Some y
+
+abbrev pub halting : Halt → Planner → Planner
+halting x h = record { ops = h.ops; halt = or_halt h.halt x; operations = h.operations; runs = h.runs; mode = h.mode }
+
+-- What planners keep, at every end: the next list's number is the number of runs, and there are no more operations than items.
+pub record Kept (s : Source) (h : Planner) : Type 0 where
+  pub runs : h.runs ≡ runs_of (items_at s h)
+  pub few : h.operations ≤ length (items_at s h)
 
 -- The first of ys are xs.
 pub record Begins (xs ys : List Item) : Type 0 where
@@ -98,57 +100,53 @@ pub record Reaches (cap : ℕ) (before : Type 0) (x y : Planned) : Type 0 where
 
 -- What planning leaves as it was, at every end. Of all else, `seen` says what operations are added, whether planning goes on and
 -- where it stopped, and `Kept` the next list's number.
-pub record Frame (o a : Held) : Type 0 where
+pub record Frame (o a : Planner) : Type 0 where
   -- whoever is handed a stop or a full array changes nothing
-  pub still : (status o ≢ 0) → a ≡ o
+  pub still : IsSome o.halt → a ≡ o
   -- the operations that were there, and what lies past those that are there now
-  pub before : (i : ℕ) → i < count o → slice_index a.ops i ≡ slice_index o.ops i
-  pub past : (i : ℕ) → count a ≤ i → slice_index a.ops i ≡ slice_index o.ops i
-  pub grown : count o ≤ count a
-  -- the element of a stop, where planning has not stopped; the mode and the free cells; the status is one of the three
-  pub unstopped : (status a ≢ 1) → stopped_at a ≡ stopped_at o
-  pub free : (i : ℕ) → 4 ≤ i → slice_index a.cells i ≡ slice_index o.cells i
-  pub known : status o ≤ 2 → status a ≤ 2
-  pub same_cells : length a.cells ≡ length o.cells
+  pub before : (i : ℕ) → i < o.operations → slice_index a.ops.now i ≡ slice_index o.ops.now i
+  pub past : (i : ℕ) → a.operations ≤ i → slice_index a.ops.now i ≡ slice_index o.ops.now i
+  pub grown : o.operations ≤ a.operations
+  -- the mode, and the array that is lent
+  pub mode : a.mode ≡ o.mode
+  pub same_ops : length a.ops.now ≡ length o.ops.now
+  pub lent : a.ops.ghost_name ≡ o.ops.ghost_name
 
 -- What the one function that adds promises: planning q takes o to a with at most one operation more, and with none where planning
 -- does not go on.
-pub record Adds (s : Source) (q : Print) (o a : Held) : Type 0 where
-  pub ran : length o.cells ≡ 8 → Reaches (length o.ops) (Kept s o) (seen s a) (planning q (seen s o))
-  pub same_ops : length a.ops ≡ length o.ops
-  pub frame : length o.cells ≡ 8 → Frame o a
-  pub one : length o.cells ≡ 8 → count a ≤ suc (count o)
-  pub none : (status a ≢ 0) → (items_at s a ≡ items_at s o) × (count a ≡ count o) × (next_run a ≡ next_run o)
+pub record Adds (s : Source) (q : Print) (o a : Planner) : Type 0 where
+  pub ran : Reaches (length o.ops.now) (Kept s o) (seen s a) (planning q (seen s o))
+  pub frame : Frame o a
+  pub one : a.operations ≤ suc o.operations
+  pub within : o.operations ≤ length o.ops.now → a.operations ≤ length a.ops.now
+  pub none : IsSome a.halt → (items_at s a ≡ items_at s o) × (a.operations ≡ o.operations) × (a.runs ≡ o.runs)
 
 -- Every planner's contract: planning q takes o to a, what planners keep holds again, and all else is as it was.
-pub record Plans (s : Source) (q : Print) (o a : Held) : Type 0 where
-  pub ran : length o.cells ≡ 8 → Reaches (length o.ops) (Kept s o) (seen s a) (planning q (seen s o))
-  pub same_ops : length a.ops ≡ length o.ops
-  pub frame : length o.cells ≡ 8 → Frame o a
+pub record Plans (s : Source) (q : Print) (o a : Planner) : Type 0 where
+  pub ran : Reaches (length o.ops.now) (Kept s o) (seen s a) (planning q (seen s o))
+  pub frame : Frame o a
   pub tidy : Kept s o → Kept s a
+  -- the operations lie in the array, where they did
+  pub within : o.operations ≤ length o.ops.now → a.operations ≤ length a.ops.now
 
 -- ---- of what is lent
 
--- what a planner that is lent the operations and the cells is handed
-abbrev pub handed : LentMut → LentMut → Held
-handed ops cells = held ops.entry.now cells.entry.now
-
--- what it leaves
-abbrev pub left : LentMut → LentMut → Held
-left ops cells = held ops.exit.now cells.exit.now
+-- a planner that is lent, at the entry and at the exit of a call
+abbrev pub LentPlanner : Type 0
+LentPlanner = Both (MutBor Planner) (MutBor Planner)
 
 -- the tree with a lent image and a lent index
-abbrev pub source_in : Lent → Lent → Source
-source_in image index = source_at image.entry.now index.entry.now
+abbrev pub source_in : LentTree → Source
+source_in tree = tree.entry.now
 
--- the contract of a planner that is lent the tree: it plans q
-abbrev pub PlansIn : LentMut → LentMut → Lent → Lent → Print → Type 0
-PlansIn ops cells image index q = Plans (source_in image index) q (handed ops cells) (left ops cells)
+-- the contract of a call that is lent the tree: it plans q
+abbrev pub PlansIn : LentPlanner → LentTree → Print → Type 0
+PlansIn planner tree q = Plans (source_in tree) q planner.entry.now planner.exit.now
 
--- the contract of a planner that is lent no tree: it plans q for every one
-abbrev pub PlansAny : LentMut → LentMut → Print → Type 0
-PlansAny ops cells q = (s : Source) → Plans s q (handed ops cells) (left ops cells)
+-- the contract of a call that is lent no tree: it plans q for every one
+abbrev pub PlansAny : LentPlanner → Print → Type 0
+PlansAny planner q = (s : Source) → Plans s q planner.entry.now planner.exit.now
 
 -- the same of the one function that adds
-abbrev pub AddsAny : LentMut → LentMut → (Source → Print) → Type 0
-AddsAny ops cells q = (s : Source) → Adds s (q s) (handed ops cells) (left ops cells)
+abbrev pub AddsAny : LentPlanner → (Source → Print) → Type 0
+AddsAny planner q = (s : Source) → Adds s (q s) planner.entry.now planner.exit.now

@@ -1,52 +1,58 @@
-// A plan of what is to be printed: operations, a number each, which planners add to a lent array. How far planning has come
-// stands in a few lent cells. `write` makes records and texts of a plan.
+// A plan of what is to be printed: operations, a number each, which a planner adds to a lent array. `write` makes records and texts of a
+// plan.
 #![tactic(auto)]
 
 pub mod notes;
 pub mod words;
 pub mod write;
 
-ghost use Rattle.std.specs.Prelude.{◌≡◌, ℕ, ◌<◌, List, length, ◌==◌, slice_index, slice_set};
+ghost use Rattle.std.specs.Prelude.{◌≡◌, ◌<◌};
 ghost use Rattle.items.specs.Item.{say, says, lit, open_run, stopped, text, signal, condition_test, mark, run_end, again, if_test};
-ghost use Rattle.numbers.specs.Mode.{mode_number, mode_at, keeps};
+ghost use Rattle.numbers.specs.Mode.{keeps};
 ghost use Rattle.comments.specs.Place.{place};
 ghost use Rattle.plan.specs.Words.{word_at, word_or_none, word_count};
-ghost use Rattle.plan.specs.Ops.{Source, token, note, note_kind, expand, op_items, operand_limit};
+ghost use Rattle.plan.specs.Ops.{token, note, note_kind, expand, op_items, operand_limit};
+ghost use Rattle.tree.specs.Source.{Source};
+ghost use Rattle.plan.specs.declared.Halt.TheVariants.{Stopped};
 ghost use Rattle.plan.specs.Load.{Carried};
-ghost use Rattle.plan.specs.Plans.{held, handed, left, source_in, Plans, PlansIn, PlansAny, AddsAny};
+ghost use Rattle.plan.specs.Plans.{source_in, fresh, Plans, PlansIn, PlansAny, AddsAny, made, halting};
 
 use comments::{CommentLocation, is_silent};
 use items::{Condition, Signal, signal_kind};
-use numbers::mode::{KEEPING, Mode, number_of};
+use numbers::mode::Mode;
 use numbers::{Element, Mark, Run};
-use tree::access::{kind_at, text_at};
+use tree::Tree;
 
-// The cells: status, the element at which planning stopped, operations, the number of the next list, that of the mode. Three are
-// free.
-const STATUS: usize = 0;
+// Why planning does not go on: it stopped at an element, or found no room.
+#[derive(Clone, Copy)]
+pub enum Halt {
+    Stopped(Element),
+    Full,
+}
 
-const STOP: usize = 1;
+// How many operations a plan has, and how many runs they begin.
+#[derive(Clone, Copy)]
+pub struct Plan {
+    pub operations: usize,
+    pub runs: u32,
+}
 
-const COUNT: usize = 2;
+// A plan in the making: a lent array with the operations so far, whether planning goes on, how many operations and runs there are, and the
+// mode.
+#[derive(Drop)]
+pub struct Planner<'a> {
+    ops: &'a mut [u32],
+    halt: Option<Halt>,
+    operations: usize,
+    runs: u32,
+    mode: Mode,
+}
 
-const RUNS: usize = 3;
-
-const MODE: usize = 4;
-
-// The status.
-const GOING: u32 = 0;
-
-const STOPPED: u32 = 1;
-
-const FULL: u32 = 2;
-
-// An operation is its kind, 5 bits, and its operand, 27 bits. Operands from LIMIT on have no room.
+// An operation is its kind, 5 bits, and its operand, 27 bits: a number, since the lent array has fixed memory. Operands from LIMIT on have no
+// room.
 pub const KINDS: u32 = 32;
 
 const LIMIT: u32 = 0x800_0000;
-
-// An array has at most so many operations.
-const MOST: u32 = 0xffff_ffff;
 
 // The kinds of operations; the others are those of items without a text.
 pub const TOKEN: u32 = 0;
@@ -59,51 +65,6 @@ pub const NOTE_INLINE: u32 = 20;
 
 const NOTE_ENDING: u32 = 21;
 
-// A count as a place.
-fn wide(n: u32) -> usize
-    ensures { result ≡ n }
-{
-    n as usize
-}
-
-// Adds an operation, if planning goes on and there is room.
-fn add(ops: &mut [u32], cells: &mut [u32; 8], op: u32)
-    ensures { AddsAny ops cells (λ s. says (op_items s op)) }
-{
-    let status = cells[STATUS];
-    if status != GOING {
-        return;
-    }
-    let n = cells[COUNT];
-    let at = wide(n);
-    if ops.len() <= at {
-        cells[STATUS] = FULL;
-        return;
-    }
-    if MOST <= n {
-        cells[STATUS] = FULL;
-        return;
-    }
-    ops[at] = op;
-    cells[COUNT] = n + 1;
-}
-
-// Adds an operation with an operand.
-fn add_numbered(ops: &mut [u32], cells: &mut [u32; 8], kind: u32, v: u64)
-    requires { kind < 32 }
-    ensures { (s : Source) → Carried s kind v → Plans s (says (expand s kind v)) (handed ops cells) (left ops cells) }
-{
-    if cells[STATUS] != GOING {
-        return;
-    }
-    if LIMIT as u64 <= v {
-        cells[STATUS] = FULL;
-        return;
-    }
-    let w = v as u32;
-    add(ops, cells, kind + KINDS * w);
-}
-
 // The kind of a comment at a place.
 fn note_kind(loc: CommentLocation) -> u32
     ensures { result ≡ note_kind (place loc) }
@@ -115,166 +76,190 @@ fn note_kind(loc: CommentLocation) -> u32
     }
 }
 
-// Chooses the mode, before the first operation.
-pub fn set_mode(cells: &mut [u32; 8], mode: Mode)
-    ensures { cells.new ≡ slice_set cells.old 4 (mode_number mode) }
-{
-    cells[MODE] = number_of(mode);
-}
-
-// Whether comments around statements are kept.
-pub fn is_keeping(cells: &[u32; 8]) -> bool
-    ensures { result ≡ keeps (mode_at (slice_index cells.now 4)) }
-{
-    cells[MODE] == KEEPING
-}
-
-// The number that the next list gets.
-pub fn next_run(cells: &[u32; 8]) -> Run
-    ensures { result.0 ≡ slice_index cells.now 3 }
-{
-    Run(cells[RUNS])
-}
-
-// Plans the text with a number.
-pub fn plan_word(ops: &mut [u32], cells: &mut [u32; 8], w: u32)
-    requires { w < word_count }
-    ensures { PlansAny ops cells (lit (word_at w)) }
-{
-    add_numbered(ops, cells, WORD, w as u64);
-}
-
-// Plans the text with a number, and nothing for number 0.
-pub fn plan_optional(ops: &mut [u32], cells: &mut [u32; 8], w: u32)
-    requires { w < word_count }
-    ensures { PlansAny ops cells (word_or_none w) }
-{
-    if w == 0 {
-        return;
+impl<'a> Planner<'a> {
+    // Before the first operation, in a mode.
+    pub fn new(ops: &'a mut [u32], mode: Mode) -> Planner<'a>
+        ensures { result ≡ fresh ops.entry mode }
+    {
+        Planner {
+            ops,
+            halt: None,
+            operations: 0,
+            runs: 0,
+            mode,
+        }
     }
-    plan_word(ops, cells, w);
-}
 
-// Plans the text of element t.
-pub fn plan_token(ops: &mut [u32], cells: &mut [u32; 8], t: Element)
-    requires { t.0 < operand_limit }
-    ensures { (s : Source) → Plans s (say (text (token s t.0))) (handed ops cells) (left ops cells) }
-{
-    add_numbered(ops, cells, TOKEN, t.0 as u64);
-}
-
-// Plans the comment of element t at a place, if it prints anything: each operation prints an item or more.
-fn plan_comment(
-    ops: &mut [u32],
-    cells: &mut [u32; 8],
-    image: &[u8],
-    index: &[u32],
-    t: Element,
-    loc: CommentLocation,
-)
-    requires { t.0 < operand_limit }
-    ensures { PlansIn ops cells image index (says (note (source_in image index) t.0 (place loc))) }
-{
-    let k = kind_at(index, t.0);
-    let s = text_at(image, index, t.0);
-    if is_silent(k, s) {
-        return;
+    // The plan, if planning went on to its end.
+    pub fn finish(&self) -> Result<Plan, Halt>
+        ensures { result ≡ made self.now }
+    {
+        match self.halt {
+            None => Ok(Plan {
+                operations: self.operations(),
+                runs: self.runs,
+            }),
+            Some(halt) => Err(halt),
+        }
     }
-    add_numbered(ops, cells, note_kind(loc), t.0 as u64);
-}
 
-// Plans an item without operands.
-pub fn plan_signal(ops: &mut [u32], cells: &mut [u32; 8], x: Signal)
-    ensures { PlansAny ops cells (say (signal x)) }
-{
-    add_numbered(ops, cells, signal_kind(x), 0);
-}
-
-// Plans a line mark.
-pub fn plan_mark(ops: &mut [u32], cells: &mut [u32; 8], m: Mark)
-    ensures { PlansAny ops cells (say (mark m.0)) }
-{
-    add_numbered(ops, cells, items::MARK, m.0);
-}
-
-// Begins the run of the next list, which takes its number where there was room.
-pub fn open_run(ops: &mut [u32], cells: &mut [u32; 8])
-    ensures { PlansAny ops cells open_run }
-{
-    if cells[STATUS] != GOING {
-        return;
+    // How many operations were added.
+    pub fn operations(&self) -> usize
+        ensures { result ≡ self.now.operations }
+    {
+        self.operations
     }
-    let k = cells[RUNS];
-    if LIMIT <= k {
-        cells[STATUS] = FULL;
-        return;
+
+    // Whether comments around statements are kept.
+    pub fn is_keeping(&self) -> bool
+        ensures { result ≡ keeps self.now.mode }
+    {
+        self.mode == Mode::Keeping
     }
-    add(ops, cells, items::RUN + KINDS * k);
-    if cells[STATUS] == GOING {
-        cells[RUNS] = k + 1;
+
+    // The number that the next list gets.
+    pub fn next_run(&self) -> Run
+        ensures { result.0 ≡ self.now.runs }
+    {
+        Run(self.runs)
     }
-}
 
-// Ends a run.
-pub fn end_run(ops: &mut [u32], cells: &mut [u32; 8], k: Run)
-    ensures { PlansAny ops cells (say (run_end k.0)) }
-{
-    add_numbered(ops, cells, items::RUN_END, k.0 as u64);
-}
-
-// Plans what a run holds once more.
-pub fn plan_again(ops: &mut [u32], cells: &mut [u32; 8], k: Run)
-    ensures { PlansAny ops cells (say (again k.0)) }
-{
-    add_numbered(ops, cells, items::AGAIN, k.0 as u64);
-}
-
-// Begins the first branch of a condition.
-pub fn plan_if(ops: &mut [u32], cells: &mut [u32; 8], t: Condition)
-    ensures { PlansAny ops cells (say (if_test (condition_test t))) }
-{
-    match t {
-        Condition::Always => add_numbered(ops, cells, items::IF, 0),
-        Condition::Lines(m) => add_numbered(ops, cells, items::IF_LINES, m.0),
+    // Adds an operation, if planning goes on and there is room.
+    fn add(&mut self, op: u32)
+        ensures { AddsAny self (λ s. says (op_items s op)) }
+    {
+        let halted = self.halt.is_some();
+        if halted {
+            return;
+        }
+        let at = self.operations;
+        if self.ops.len() <= at {
+            self.halt = Some(Halt::Full);
+            return;
+        }
+        self.ops[at] = op;
+        self.operations = at + 1;
     }
-}
 
-// Whether planning goes on.
-pub fn is_going(cells: &[u32; 8]) -> bool
-    ensures { result ≡ (slice_index cells.now 0 == 0) }
-{
-    cells[STATUS] == GOING
-}
-
-// Whether planning stopped. The cells are copied: of a copy it is known that there are eight.
-pub fn is_stopped(cells: [u32; 8]) -> bool
-    ensures value { result ≡ (slice_index cells 0 == 1) }
-    ensures cells_len { length cells ≡ 8 }
-{
-    cells[STATUS] == STOPPED
-}
-
-// How many operations were added.
-pub fn operations(cells: &[u32; 8]) -> usize
-    ensures { result ≡ slice_index cells.now 2 }
-{
-    wide(cells[COUNT])
-}
-
-// The element at which planning stopped.
-pub fn stopped_at(cells: &[u32; 8]) -> Element
-    ensures { result.0 ≡ slice_index cells.now 1 }
-{
-    Element(cells[STOP])
-}
-
-// Stops at an element, where planning still goes on.
-pub fn stop_at(cells: &mut [u32; 8], e: Element)
-    ensures { (s : Source) (ops : List ℕ) → Plans s (stopped e.0) (held ops cells.old) (held ops cells.new) }
-{
-    if cells[STATUS] != GOING {
-        return;
+    // Adds an operation with an operand.
+    fn add_numbered(&mut self, kind: u32, v: u64)
+        requires { kind < 32 }
+        ensures { (s : Source) → Carried s kind v → Plans s (says (expand s kind v)) self.old self.new }
+    {
+        if self.halt.is_some() {
+            return;
+        }
+        if LIMIT as u64 <= v {
+            self.halt = Some(Halt::Full);
+            return;
+        }
+        self.add(kind + KINDS * (v as u32));
     }
-    cells[STOP] = e.0;
-    cells[STATUS] = STOPPED;
+
+    // Plans the text with a number.
+    pub fn plan_word(&mut self, w: u32)
+        requires { w < word_count }
+        ensures { PlansAny self (lit (word_at w)) }
+    {
+        self.add_numbered(WORD, w as u64);
+    }
+
+    // Plans the text with a number, and nothing for number 0.
+    pub fn plan_optional(&mut self, w: u32)
+        requires { w < word_count }
+        ensures { PlansAny self (word_or_none w) }
+    {
+        if w == 0 {
+            return;
+        }
+        self.plan_word(w);
+    }
+
+    // Plans the text of element t.
+    pub fn plan_token(&mut self, t: Element)
+        requires { t.0 < operand_limit }
+        ensures { (s : Source) → Plans s (say (text (token s t.0))) self.old self.new }
+    {
+        self.add_numbered(TOKEN, t.0 as u64);
+    }
+
+    // Plans the comment of element t at a place, if it prints anything: each operation prints an item or more.
+    fn plan_comment(&mut self, tree: &Tree, t: Element, loc: CommentLocation)
+        requires { t.0 < operand_limit }
+        ensures { PlansIn self tree (says (note (source_in tree) t.0 (place loc))) }
+    {
+        let k = tree.kind_at(t.0);
+        let s = tree.text_at(t.0);
+        if is_silent(k, s) {
+            return;
+        }
+        self.add_numbered(note_kind(loc), t.0 as u64);
+    }
+
+    // Plans an item without operands.
+    pub fn plan_signal(&mut self, x: Signal)
+        ensures { PlansAny self (say (signal x)) }
+    {
+        self.add_numbered(signal_kind(x), 0);
+    }
+
+    // Plans a line mark.
+    pub fn plan_mark(&mut self, m: Mark)
+        ensures { PlansAny self (say (mark m.0)) }
+    {
+        self.add_numbered(items::MARK, m.0);
+    }
+
+    // Begins the run of the next list, which takes its number where there was room.
+    pub fn open_run(&mut self)
+        ensures { PlansAny self open_run }
+    {
+        if self.halt.is_some() {
+            return;
+        }
+        let k = self.runs;
+        if LIMIT <= k {
+            self.halt = Some(Halt::Full);
+            return;
+        }
+        self.add(items::RUN + KINDS * k);
+        if self.halt.is_none() {
+            self.runs = k + 1;
+        }
+    }
+
+    // Ends a run.
+    pub fn end_run(&mut self, k: Run)
+        ensures { PlansAny self (say (run_end k.0)) }
+    {
+        self.add_numbered(items::RUN_END, k.0 as u64);
+    }
+
+    // Plans what a run holds once more.
+    pub fn plan_again(&mut self, k: Run)
+        ensures { PlansAny self (say (again k.0)) }
+    {
+        self.add_numbered(items::AGAIN, k.0 as u64);
+    }
+
+    // Begins the first branch of a condition.
+    pub fn plan_if(&mut self, t: Condition)
+        ensures { PlansAny self (say (if_test (condition_test t))) }
+    {
+        match t {
+            Condition::Always => self.add_numbered(items::IF, 0),
+            Condition::Lines(m) => self.add_numbered(items::IF_LINES, m.0),
+        }
+    }
+
+    // Stops at an element, where planning still goes on.
+    pub fn stop_at(&mut self, e: Element)
+        ensures plans { PlansAny self (stopped e.0) }
+        ensures halts { self.new ≡ halting (Stopped e) self.old }
+    {
+        if self.halt.is_some() {
+            return;
+        }
+        self.halt = Some(Halt::Stopped(e));
+    }
 }

@@ -9,107 +9,68 @@ ghost use Rattle.plan.specs.Comments.{comments};
 ghost use Rattle.plan.specs.Ops.{operand_limit};
 ghost use Rattle.plan.specs.Plans.{PlansIn};
 
-use super::plan_comment;
+use super::Planner;
 use children::gap::Span;
 use children::note_kinds;
 use comments::CommentLocation;
 use numbers::Element;
-use tree::access::{end_at, kind_at};
+use tree::Tree;
 use tree::class::{Class, Kinds, is, kinds_of};
 
 // Plans element j if it is of these kinds.
-fn plan_one(
-    ops: &mut [u32],
-    cells: &mut [u32; 8],
-    image: &[u8],
-    index: &[u32],
-    w: Kinds,
-    j: Element,
-    loc: CommentLocation,
-)
+fn plan_one(planner: &mut Planner, tree: &Tree, w: Kinds, j: Element, loc: CommentLocation)
     requires { j.0 < operand_limit }
-    ensures { PlansIn ops cells image index (comments (all_of w (part_at image.now index.now j.0 ∷ [])) (place loc)) }
+    ensures { PlansIn planner tree (comments (all_of w (part_at tree.now.image tree.now.index j.0 ∷ [])) (place loc)) }
 {
-    let k = kind_at(index, j.0);
+    let k = tree.kind_at(j.0);
     if is(w, k) {
-        plan_comment(ops, cells, image, index, j, loc);
+        planner.plan_comment(tree, j, loc);
     }
 }
 
 // Plans the siblings of these kinds from a on that begin before b.
-fn plan_all(
-    ops: &mut [u32],
-    cells: &mut [u32; 8],
-    image: &[u8],
-    index: &[u32],
-    w: Kinds,
-    a: u32,
-    b: u32,
-    loc: CommentLocation,
-)
-    requires { Region image.now index.now a b }
-    ensures { PlansIn ops cells image index (comments (all_of w (parts_from image.now index.now a b)) (place loc)) }
+fn plan_all(planner: &mut Planner, tree: &Tree, w: Kinds, a: u32, b: u32, loc: CommentLocation)
+    requires { Region tree.now.image tree.now.index a b }
+    ensures { PlansIn planner tree (comments (all_of w (parts_from tree.now.image tree.now.index a b)) (place loc)) }
 {
     let mut j = a;
     while j < b {
-        plan_one(ops, cells, image, index, w, Element(j), loc);
-        j = end_at(index, j);
+        plan_one(planner, tree, w, Element(j), loc);
+        j = tree.end_at(j);
     }
 }
 
 // Plans the inline trivia of a gap: nothing, where there is whitespace only.
-pub fn plan_inline(
-    ops: &mut [u32],
-    cells: &mut [u32; 8],
-    image: &[u8],
-    index: &[u32],
-    g: Span,
-    loc: CommentLocation,
-)
-    requires { Lies image.now index.now g }
-    ensures { PlansIn ops cells image index (comments (gap_at image.now index.now g).inline (place loc)) }
+pub fn plan_inline(planner: &mut Planner, tree: &Tree, g: Span, loc: CommentLocation)
+    requires { Lies tree.now.image tree.now.index g }
+    ensures { PlansIn planner tree (comments (gap_at tree.now.image tree.now.index g).inline (place loc)) }
 {
     if !g.tally.noted {
         return;
     }
     let w = kinds_of(Class::Trivia);
-    plan_all(ops, cells, image, index, w, g.from, g.cut, loc);
+    plan_all(planner, tree, w, g.from, g.cut, loc);
 }
 
 // Plans what waits in a gap: the custom errors before the cut, and all behind it; nothing, where there is whitespace only.
-pub fn plan_waiting(
-    ops: &mut [u32],
-    cells: &mut [u32; 8],
-    image: &[u8],
-    index: &[u32],
-    g: Span,
-    loc: CommentLocation,
-)
-    requires { Lies image.now index.now g }
-    ensures { PlansIn ops cells image index (comments (gap_at image.now index.now g).waiting (place loc)) }
+pub fn plan_waiting(planner: &mut Planner, tree: &Tree, g: Span, loc: CommentLocation)
+    requires { Lies tree.now.image tree.now.index g }
+    ensures { PlansIn planner tree (comments (gap_at tree.now.image tree.now.index g).waiting (place loc)) }
 {
     if !g.tally.noted {
         return;
     }
     let w = kinds_of(Class::CustomError);
-    plan_all(ops, cells, image, index, w, g.from, g.cut, loc);
+    plan_all(planner, tree, w, g.from, g.cut, loc);
     let v = note_kinds();
-    plan_all(ops, cells, image, index, v, g.cut, g.to, loc);
+    plan_all(planner, tree, v, g.cut, g.to, loc);
 }
 
 // Plans the trivia and the custom errors from a on that begin before b.
-pub fn plan_notes(
-    ops: &mut [u32],
-    cells: &mut [u32; 8],
-    image: &[u8],
-    index: &[u32],
-    a: u32,
-    b: u32,
-    loc: CommentLocation,
-)
-    requires { Region image.now index.now a b }
-    ensures { PlansIn ops cells image index (comments (all_of notes (parts_from image.now index.now a b)) (place loc)) }
+pub fn plan_notes(planner: &mut Planner, tree: &Tree, a: u32, b: u32, loc: CommentLocation)
+    requires { Region tree.now.image tree.now.index a b }
+    ensures { PlansIn planner tree (comments (all_of notes (parts_from tree.now.image tree.now.index a b)) (place loc)) }
 {
     let w = note_kinds();
-    plan_all(ops, cells, image, index, w, a, b, loc);
+    plan_all(planner, tree, w, a, b, loc);
 }

@@ -1,4 +1,4 @@
-// The texts of the formatter's own, by their numbers.
+// The texts of the formatter's own, by their numbers, which operations have as operands.
 ghost use Rattle.std.specs.Prelude.{◌≡◌, ◌≤◌};
 ghost use Rattle.text.specs.Basic.{ascii};
 ghost use Rattle.text.specs.Words.{joined_words, word_start};

@@ -1,9 +1,10 @@
 -- The laws of looking parts up: what was found is the part that the definition names, and one of the node's.
 use Rattle.std.specs.Prelude.{◌≡◌, ℕ, ◌+◌, Bool, true, false, cond, not, ◌&&◌, ◌||◌, eqb, List, [], ◌∷◌, ◌++◌}
+use Rattle.std.specs.Prelude as R
 use mathlib.Core.Path.{refl, sym, ◌∙◌}
 use mathlib.Core.Bool.{false≢true}
 use mathlib.Core.Option.{Option, none as nothing, some}
-use borrow.Author.Tests.{eq-eqb, ne_eqb, not-true}
+use borrow.Author.Tests.{not-true}
 use Rattle.text.specs.Basic.{any, is_nil, present, or_else}
 use Rattle.tree.specs.Tree.{Part}
 use Rattle.tree.specs.declared.class.Class.{Class}
@@ -18,7 +19,7 @@ use Rattle.printer.specs.Layout
 use Rattle.printer.specs.Layout.{Want, asked}
 use Rattle.printer.specs.Rows.{want_at, wanted, piece_of, tested}
 use Rattle.printer.specs.Under.{At, parts_of}
-use Rattle.printer.specs.Reads.{part_for, Has}
+use Rattle.printer.specs.Reads.{Has}
 use Rattle.printer.proofs.Under.{at-region}
 
 -- ---- what was found
@@ -36,15 +37,9 @@ module _ (index image : List ℕ) (i : ℕ) {a b : ℕ} (p : a ≡ i + 1) (q : b
   pub last_found : {w : Kinds} (c : Class) {f : Option ℕ} → w ≡ kinds c → f ≡ number_of (last_of w (parts_from image index a b)) → f ≡ number_of (last c (parts_of image index i))
   last_found c e h = h ∙ rw (e, p, q)
 
--- the part of an entry: the wanted one
-pub part-wanted : (x : Entry) (ps : List Part) {f : Option ℕ} → x.what ≡ 4 → f ≡ number_of (nth (want_at x.want).class (want_at x.want).place ps) → f ≡ number_of (part_for x ps)
-unfolding part_for
-part-wanted x ps e h = h ∙ rw (eq-eqb x.what 4 e)
-
 -- the `+` of a field
-pub part-plus : (x : Entry) (index image : List ℕ) (i : ℕ) {a b : ℕ} {f : Option ℕ} → (x.what ≡ 4 → ⊥) → a ≡ i + 1 → b ≡ end_at index i → f ≡ number_of (plus_of (parts_from image index a b)) → f ≡ number_of (part_for x (parts_of image index i))
-unfolding part_for
-part-plus x index image i e p q h = h ∙ rw (ne_eqb x.what 4 e, p, q)
+pub plus-found : (index image : List ℕ) (i : ℕ) {a b : ℕ} {f : Option ℕ} → a ≡ i + 1 → b ≡ end_at index i → f ≡ number_of (plus_of (parts_from image index a b)) → f ≡ number_of (plus_of (parts_of image index i))
+plus-found index image i p q h = h ∙ rw (p, q)
 
 -- the first of two that is there
 pub or_found : (x y : Option Part) {f g h : Option ℕ} → f ≡ number_of x → g ≡ number_of y → h ≡ or_else f g → h ≡ number_of (or_else x y)
@@ -60,15 +55,15 @@ present-number : (x : Option Part) → present (number_of x) ≡ present x
 present-number nothing = refl
 present-number (some x) = refl
 
-pub there-none : (ps : List Part) (w : ℕ) → w ≡ 0 → false ≡ any (Layout.found ps) (wanted w)
+pub there-none : (ps : List Part) {o : R.Option ℕ} → o ≡ R.None → false ≡ any (Layout.found ps) (wanted o)
 unfolding wanted any
-there-none ps w e = rw (eq-eqb w 0 e)
+there-none ps e = rw e
 
-pub there-some : (ps : List Part) (w : ℕ) {f : Option ℕ} {r : Bool} → (w ≡ 0 → ⊥) → f ≡ number_of (nth (want_at w).class (want_at w).place ps) → r ≡ not (present f) → not r ≡ any (Layout.found ps) (wanted w)
+pub there-some : (ps : List Part) {o : R.Option ℕ} (w : ℕ) {f : Option ℕ} {r : Bool} → o ≡ R.Some w → f ≡ number_of (nth (want_at w).class (want_at w).place ps) → r ≡ present f → r ≡ any (Layout.found ps) (wanted o)
 unfolding wanted any
-there-some ps w {f} {r} h e q = rw (ne_eqb w 0 h, q, e, present-number (nth (want_at w).class (want_at w).place ps)) (go (present (nth (want_at w).class (want_at w).place ps)))
+there-some ps w {f} {r} h e q = rw (h, q, e, present-number (nth (want_at w).class (want_at w).place ps)) (go (present (nth (want_at w).class (want_at w).place ps)))
   where
-    go : (b : Bool) → not (not b) ≡ (b || false)
+    go : (b : Bool) → b ≡ (b || false)
     go true = refl
     go false = refl
 
@@ -81,19 +76,22 @@ any-both f (x ∷ xs) ys = rw (any-both f xs ys) (go (f x))
     go true = refl
     go false = refl
 
-none_named : (g o : ℕ) → is_nil (wanted g ++ wanted o) ≡ (eqb g 0 && eqb o 0)
+-- whether a wanted part is named
+not_named : (o : R.Option ℕ) (a : Bool) → R.is_some o ≡ not a → is_nil (wanted o) ≡ a
 unfolding wanted
-none_named g o = go (eqb g 0) (eqb o 0)
-  where
-    go : (a b : Bool) → is_nil (cond a [] (want_at g ∷ []) ++ cond b [] (want_at o ∷ [])) ≡ (a && b)
-    go true true = refl
-    go true false = refl
-    go false b = refl
+not_named R.None true e = refl
+not_named R.None false e = sym e
+not_named (R.Some w) true e = sym e
+not_named (R.Some w) false e = refl
+
+nil-both : (xs ys : List Want) → is_nil (xs ++ ys) ≡ (is_nil xs && is_nil ys)
+nil-both [] ys = refl
+nil-both (x ∷ xs) ys = refl
 
 -- a piece is asked for
-pub asked_by : (ps : List Part) (x : Entry) {g o u : Bool} → g ≡ any (Layout.found ps) (wanted x.given) → o ≡ any (Layout.found ps) (wanted x.other) → u ≡ any (Layout.found ps) (wanted x.unless)
-    → (((eqb x.given 0 && eqb x.other 0) || (g || o)) && not u) ≡ asked ps (piece_of x)
-asked_by ps x p q r = rw (p, q, r, none_named x.given x.other, any-both (Layout.found ps) (wanted x.given) (wanted x.other))
+pub asked_by : (ps : List Part) (x : Entry) (a b : Bool) {g o u : Bool} → R.is_some x.given ≡ not a → R.is_some x.other ≡ not b
+    → g ≡ any (Layout.found ps) (wanted x.given) → o ≡ any (Layout.found ps) (wanted x.other) → u ≡ any (Layout.found ps) (wanted x.unless) → (((a && b) || (g || o)) && not u) ≡ asked ps (piece_of x)
+asked_by ps x a b s t p q r = rw (← not_named x.given a s, ← not_named x.other b t, p, q, r, nil-both (wanted x.given) (wanted x.other), any-both (Layout.found ps) (wanted x.given) (wanted x.other))
 
 -- so is one that goes by no parts
 pub asked-always : (ps : List Part) (x : Entry) → x.tested ≡ tested (piece_of x) → not x.tested ≡ true → true ≡ asked ps (piece_of x)
@@ -116,14 +114,13 @@ plus-has j (x ∷ xs) e = go (is_plus x) e (plus-has j xs)
     go true e f = has_here j x xs e
     go false e f = has-later j x xs (f e)
 
--- the part of an entry is one of the node's
-pub part-has : (x : Entry) (ps : List Part) {n : Option ℕ} → n ≡ number_of (part_for x ps) → Has ps n
-unfolding part_for
-part-has x ps e = record { part = λ j h. go (eqb x.what 4) j (sym e ∙ h) }
-  where
-    go : (b : Bool) (j : ℕ) → number_of (cond b (nth (want_at x.want).class (want_at x.want).place ps) (plus_of ps)) ≡ some j → has j ps ≡ true
-    go true j h = nth-has (kinds (want_at x.want).class) j (want_at x.want).place ps h
-    go false j h = plus-has j ps h
+-- a wanted part is one of the node's
+pub want-has : (w : ℕ) (ps : List Part) {n : Option ℕ} → n ≡ number_of (nth (want_at w).class (want_at w).place ps) → Has ps n
+want-has w ps e = record { part = λ j h. nth-has (kinds (want_at w).class) j (want_at w).place ps (sym e ∙ h) }
+
+-- and so is a `+`
+pub plus-part : (ps : List Part) {n : Option ℕ} → n ≡ number_of (plus_of ps) → Has ps n
+plus-part ps e = record { part = λ j h. plus-has j ps (sym e ∙ h) }
 
 -- the first part of a class is one of the node's
 pub first-has : (c : Class) (ps : List Part) {n : Option ℕ} → n ≡ number_of (nth c 0 ps) → Has ps n

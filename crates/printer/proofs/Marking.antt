@@ -1,5 +1,6 @@
 -- The laws of marks: one that is set says that the first part of its class is there, and where one is not set, none is looked for.
 use Rattle.std.specs.Prelude.{◌≡◌, ℕ, zero, suc, ◌+◌, ◌-◌, ◌/◌, ◌%◌, ◌^◌, ◌<◌, ◌≤◌, max, Bool, true, false, cond, not, ◌&&◌, ◌||◌, eqb, ltb, leb, List, [], ◌∷◌}
+use Rattle.std.specs.Prelude as R
 use mathlib.Core.Path.{refl, sym, ap, ◌∙◌}
 use mathlib.Core.Bool.{or_assoc, or-false as or-idle, false≢true}
 use mathlib.Core.Option.{none as nothing, some}
@@ -13,11 +14,9 @@ use Rattle.tree.specs.declared.class.Kinds.{Kinds}
 use Rattle.tree.specs.declared.class.Class.TheVariants as Class
 use Rattle.tree.specs.Class.{kinds, one_of, of_kind, is, is_plus, nth_of, nth, plus_of, number_of}
 use Rattle.tree.specs.Index.{kind_at, end_at, parts_from, Region}
-use Rattle.tree.proofs.Accepted.{or_false}
+use Rattle.tree.proofs.Passing.{or_false}
 use Rattle.tree.proofs.Siblings.{region-part, region-past, region-next, parts-over}
-use Rattle.printer.specs.declared.rows.Entry.{Entry}
 use Rattle.printer.specs.Layout
-use Rattle.printer.specs.Reads.{part_for}
 use Rattle.printer.specs.Rows.{wants, want_at, wanted, want_count, marked, MarksOf, Marks}
 use Rattle.printer.specs.Under.{At, parts_of}
 use Rattle.printer.proofs.Under.{at-region}
@@ -144,9 +143,9 @@ module _ {ps : List Part} {m : ℕ} (k : Marks ps false m) {r : Bool} where
   want-absent w h e u = rw (nth-absent (kinds (want_at w).class) (want_at w).place ps (k.absent w h (sym e ∙ not-true r u)))
 
   -- the `+` of a field, where no operator is marked
-  pub part-absent : (x : Entry) → (x.what ≡ 4 → ⊥) → r ≡ marked m 0 → not r ≡ true → nothing ≡ number_of (part_for x ps)
-  unfolding part_for wants
-  part-absent x h e u = rw (ne_eqb x.what 4 h, plus-absent ps (k.absent 0 (omega arith) (sym e ∙ not-true r u)))
+  pub plus-unmarked : r ≡ marked m 0 → not r ≡ true → nothing ≡ number_of (plus_of ps)
+  unfolding wants
+  plus-unmarked e u = rw (plus-absent ps (k.absent 0 (omega arith) (sym e ∙ not-true r u)))
 
 -- ---- what is there
 
@@ -161,11 +160,11 @@ first-there w (x ∷ xs) = go (one_of w x.kind) (first-there w xs)
     go false h = h
 
 -- a wanted part that is the first of its kinds, by its mark
-pub there-marked : {ps : List Part} {m : ℕ} (w : ℕ) {n : ℕ} {r : Bool} → Marks ps true m → w < want_count → (w ≡ 0 → ⊥) → n ≡ (want_at w).place → n ≡ 0 → r ≡ marked m w → r ≡ any (Layout.found ps) (wanted w)
+pub there-marked : {ps : List Part} {m : ℕ} {o : R.Option ℕ} (w : ℕ) {n : ℕ} {r : Bool} → Marks ps true m → w < want_count → o ≡ R.Some w → n ≡ (want_at w).place → n ≡ 0 → r ≡ marked m w → r ≡ any (Layout.found ps) (wanted o)
 unfolding wanted any
 there-marked {ps} {m} w k h z p q e =
     let o : (want_at w).place ≡ 0 = sym p ∙ q in
-    rw (ne_eqb w 0 z, o, ← first-there (kinds (want_at w).class) ps) (e ∙ told (marked m w) refl ∙ sym (or-idle (any (is (want_at w).class) ps)))
+    rw (z, o, ← first-there (kinds (want_at w).class) ps) (e ∙ told (marked m w) refl ∙ sym (or-idle (any (is (want_at w).class) ps)))
   where
     told : (b : Bool) → marked m w ≡ b → marked m w ≡ any (is (want_at w).class) ps
     told true u = u ∙ sym (k.there refl w h u)

@@ -8,8 +8,9 @@ use native.Mathlib.Omega.{arith}
 use Rattle.text.specs.Basic.{is_nil, present, or_else}
 use Rattle.items.specs.declared.Condition.{Condition}
 use Rattle.items.specs.Item.{newline, indent, outdent, group, Print, ◌⨟◌, say, stopped, lit, condition_test}
-use Rattle.plan.specs.Ops.{Source}
-use Rattle.plan.specs.Plans.{Held, next_run, Plans}
+use Rattle.tree.specs.Source.{Source}
+use Rattle.plan.specs.declared.Planner.{Planner}
+use Rattle.plan.specs.Plans.{Plans}
 use Rattle.plan.proofs.Laws.{by, ◌▸◌, numbers}
 use Rattle.tree.specs.Tree.{Part}
 use Rattle.tree.specs.declared.class.Class.{Class}
@@ -67,20 +68,20 @@ right_paren = record { known = omega arith; text = refl }
 -- ---- lists
 
 module _ (pr : ℕ → Print) (a b z : String) {r q : Reading} (e : r ≡ q) where
-  pub plans-empty : {src : Source} {index image : List ℕ} {o : Outline} {t : Bool} {w : ℕ} {h k : Held} → Outlined image index q o → t ≡ ((eqb o.children 0 && not o.blank) && is_nil (gap_at image index o.last).waiting) → t ≡ true
+  pub plans-empty : {src : Source} {index image : List ℕ} {o : Outline} {t : Bool} {w : ℕ} {h k : Planner} → Outlined image index q o → t ≡ ((eqb o.children 0 && not o.blank) && is_nil (gap_at image index o.last).waiting) → t ≡ true
       → Word w a → Plans src (lit (word_at w)) h k → Plans src (list pr a b z r) h k
   plans-empty x f g w p = by (ap (list pr a b z) e ∙ list-empty pr a b z x f g ∙ ap lit (sym w.text)) p
 
-  pub plans-list : {src : Source} {index image : List ℕ} {o : Outline} {y : Bool} {k w v : ℕ} (t : Condition) {h₀ h₁ h₂ h₃ h₄ : Held}
-      → Outlined image index q o → y ≡ ((eqb o.children 0 && not o.blank) && is_nil (gap_at image index o.last).waiting) → y ≡ false → k ≡ next_run h₀ → condition_test t ≡ test_of (o.many || o.blank) k → Word w b → Word v z
+  pub plans-list : {src : Source} {index image : List ℕ} {o : Outline} {y : Bool} {k w v : ℕ} (t : Condition) {h₀ h₁ h₂ h₃ h₄ : Planner}
+      → Outlined image index q o → y ≡ ((eqb o.children 0 && not o.blank) && is_nil (gap_at image index o.last).waiting) → y ≡ false → k ≡ h₀.runs → condition_test t ≡ test_of (o.many || o.blank) k → Word w b → Word v z
       → Plans src (open_list (word_at w) k (condition_test t)) h₀ h₁ → Plans src (say group) h₁ h₂
       → Plans src (children pr (on_line Elements (condition_test t)) (behind_it Elements (condition_test t)) (kids_in q)) h₂ h₃ → Plans src (close_list (word_at v) k (ending_of image index o)) h₃ h₄
       → Plans src (list pr a b z r) h₀ h₄
   plans-list t x f g n c w v p₁ p₂ p₃ p₄ =
       by (ap (list pr a b z) e ∙ list_full pr a b z x f g) (numbers _ n (rw (← c, ← w.text, ← v.text) (p₁ ▸ p₂ ▸ p₃ ▸ p₄)))
 
-pub plans-args : {src : Source} (pr : ℕ → Print) {r q : Reading} → r ≡ q → {index image : List ℕ} {o : Outline} {k w v : ℕ} (t : Condition) {h₀ h₁ h₂ h₃ : Held}
-    → Outlined image index q o → k ≡ next_run h₀ → condition_test t ≡ test_of false k → Word w "(" → Word v ")"
+pub plans-args : {src : Source} (pr : ℕ → Print) {r q : Reading} → r ≡ q → {index image : List ℕ} {o : Outline} {k w v : ℕ} (t : Condition) {h₀ h₁ h₂ h₃ : Planner}
+    → Outlined image index q o → k ≡ h₀.runs → condition_test t ≡ test_of false k → Word w "(" → Word v ")"
     → Plans src (open_list (word_at w) k (condition_test t)) h₀ h₁ → Plans src (children pr (on_line Arguments (condition_test t)) (behind_it Arguments (condition_test t)) (kids_in q)) h₁ h₂
     → Plans src (close_arguments (word_at v) k (ending_of image index o)) h₂ h₃ → Plans src (arguments pr r) h₀ h₃
 plans-args pr e t x n c w v p₁ p₂ p₃ = by (ap (arguments pr) e ∙ args-full pr x) (numbers _ n (rw (← c, ← w.text, ← v.text) (p₁ ▸ p₂ ▸ p₃)))
@@ -93,8 +94,8 @@ pub spec_reading : {image index : List ℕ} (i : ℕ) {r : Reading} {m : Outline
     → comp_specs x.ending (parts_of image index i) ≡ read_at image index Class.CompSpec z (some (gap_at image index m.last).waiting)
 spec_reading i x b = b.read Class.CompSpec _ _ (some x.ending.trivia) refl refl ∙ rw x.waits
 
-pub plans-comp : {src : Source} (pr : ℕ → Print) (ps : List Part) {index image : List ℕ} {r q : Reading} {m o : Outline} {k w v : ℕ} (t : Condition) {h₀ h₁ h₂ h₃ h₄ h₅ h₆ : Held} (x : Outlined image index r m)
-    → comp_specs x.ending ps ≡ q → Outlined image index q o → k ≡ next_run h₀ → condition_test t ≡ test_of (m.many || (o.many || (m.blank || o.blank))) k → Word w "{" → Word v "}"
+pub plans-comp : {src : Source} (pr : ℕ → Print) (ps : List Part) {index image : List ℕ} {r q : Reading} {m o : Outline} {k w v : ℕ} (t : Condition) {h₀ h₁ h₂ h₃ h₄ h₅ h₆ : Planner} (x : Outlined image index r m)
+    → comp_specs x.ending ps ≡ q → Outlined image index q o → k ≡ h₀.runs → condition_test t ≡ test_of (m.many || (o.many || (m.blank || o.blank))) k → Word w "{" → Word v "}"
     → Plans src (open_list (word_at w) k (condition_test t)) h₀ h₁ → Plans src (say group) h₁ h₂ → Plans src (children pr (on_line Members (condition_test t)) (behind_it Members (condition_test t)) (kids_in r)) h₂ h₃
     → Plans src (newline_if m.blank) h₃ h₄ → Plans src (children pr (on_line Specs (condition_test t)) (behind_it Specs (condition_test t)) (kids_in q)) h₄ h₅ → Plans src (close_list (word_at v) k (ending_of image index o)) h₅ h₆
     → Plans src (comp_of pr ps r) h₀ h₆
@@ -115,14 +116,14 @@ member_reading i pr (some s) e g h b = comp-members pr _ i (some s) _ refl (λ s
 
 -- ---- locals
 
-pub plans-binds : {src : Source} (pr : ℕ → Print) {r q : Reading} → r ≡ q → {index image : List ℕ} {o : Outline} (t : Condition) {h₀ h₁ h₂ h₃ : Held} → Outlined image index q o → (o.children ≡ 1 → ⊥)
+pub plans-binds : {src : Source} (pr : ℕ → Print) {r q : Reading} → r ≡ q → {index image : List ℕ} {o : Outline} (t : Condition) {h₀ h₁ h₂ h₃ : Planner} → Outlined image index q o → (o.children ≡ 1 → ⊥)
     → Plans src (lit "local" ⨟ (say indent ⨟ say newline)) h₀ h₁ → Plans src (children pr (on_line Binds (condition_test t)) (behind_it Binds (condition_test t)) (kids_in q)) h₁ h₂
     → Plans src (ending (ending_of image index o) ⨟ say outdent) h₂ h₃ → Plans src (local_of pr r) h₀ h₃
 plans-binds pr e t x h p₁ p₂ p₃ = by (ap (local_of pr) e ∙ local-many pr (condition_test t) x h) (p₁ ▸ p₂ ▸ p₃)
 
 -- ---- expressions
 
-pub plans-expr : {src : Source} {image index : List ℕ} (i : ℕ) (pr : ℕ → Print) (x : Option Part) {f : Option ℕ} {y z : Bounds} {h₀ h₁ h₂ h₃ : Held} → f ≡ number_of x
+pub plans-expr : {src : Source} {image index : List ℕ} (i : ℕ) (pr : ℕ → Print) (x : Option Part) {f : Option ℕ} {y z : Bounds} {h₀ h₁ h₂ h₃ : Planner} → f ≡ number_of x
     → Bounded image index (i + 1) (end_at index i) nothing f y → Bounded image index (i + 1) (end_at index i) f nothing z
     → Plans src (statements_of pr (read_at image index Class.Stmt y nothing)) h₀ h₁ → Plans src (number_or pr (word_or_none 14) f) h₁ h₂ → Plans src (values_of pr (read_at image index Class.Suffix z nothing)) h₂ h₃
     → Plans src (expression pr (parts_of image index i) x) h₀ h₃

@@ -1,5 +1,5 @@
 -- The laws of a row: its pieces in turn, and what each of them prints.
-use Rattle.std.specs.Prelude.{◌≡◌, ℕ, suc, ◌+◌, ◌-◌, ◌*◌, ◌<◌, ◌≤◌, Bool, true, false, cond, not, ◌||◌, eqb, leb, List, [], ◌∷◌, length, take, drop}
+use Rattle.std.specs.Prelude.{◌≡◌, ℕ, suc, ◌+◌, ◌-◌, ◌*◌, ◌<◌, ◌≤◌, Bool, true, false, cond, not, ◌||◌, eqb, List, [], ◌∷◌, length, take, drop}
 use mathlib.Core.Path.{refl, sym, ap, ◌∙◌}
 use mathlib.Core.Bool.{false≢true}
 use mathlib.Core.Option.{Option, none as nothing, some}
@@ -7,14 +7,15 @@ use mathlib.Core.List.{flatten}
 use Prim.Native.String.{String}
 use native.Mathlib.Omega.{arith}
 use lib.Seq.{drop-cons}
-use borrow.Author.Tests.{ne_eqb, eqb-true, eqb-false, leb-true}
+use borrow.Author.Tests.{eqb-true}
 use Rattle.text.specs.Basic.{ascii, is_nil}
 use Rattle.text.proofs.Table.{tabled-at}
-use Rattle.items.specs.Item.{Print, ◌⨟◌, none, lit, when, say, newline}
-use Rattle.plan.specs.Ops.{source_at}
-use Rattle.plan.specs.Plans.{Held, Plans}
+use Rattle.items.specs.Item.{Print, ◌⨟◌, none, lit, when, say, newline, signal}
+use Rattle.items.specs.declared.Signal.{Signal}
+use Rattle.tree.specs.Source.{source_at}
+use Rattle.plan.specs.declared.Planner.{Planner}
+use Rattle.plan.specs.Plans.{Plans}
 use Rattle.plan.proofs.Laws.{◌▸◌, by, idle}
-use Rattle.tree.proofs.Accepted.{or_false}
 use Rattle.tree.specs.Tree.{Part}
 use Rattle.tree.specs.declared.class.Class.{Class}
 use Rattle.tree.specs.declared.class.Kinds.{Kinds}
@@ -25,14 +26,16 @@ use Rattle.children.specs.Stretch.{Stretch}
 use Rattle.children.proofs.Stretch.{stretch_none, stretch_both}
 use Rattle.printer.specs.declared.rows.Entry.{Entry}
 use Rattle.printer.specs.declared.rows.Extent.{Extent}
+use Rattle.printer.specs.declared.rows.What.{What as Code}
+use Rattle.printer.specs.declared.rows.What.TheVariants as C
 use Rattle.printer.specs.Layout
 use Rattle.printer.specs.Layout.{asked, layout, rows}
 use Rattle.printer.specs.Print.{each_of, what, row}
 use Rattle.plan.specs.Words.{words, word_at, word_or_none, word_count}
-use Rattle.printer.specs.Rows.{want_at, what_of, piece_of, all_pieces, piece_at, tested, settled, Coded, RowOf, Marks, piece_count}
+use Rattle.printer.specs.Rows.{want_at, what_of, what_in, piece_of, all_pieces, piece_at, tested, settled, Coded, RowOf, Marks, piece_count}
 use Rattle.printer.proofs.Seq.{Goes, goes_none, goes-more, goes-all, seq_assoc, none_first, none_last}
 use Rattle.printer.specs.Under.{At, Kid, under, parts_of, print_of}
-use Rattle.printer.specs.Reads.{number_or, part_for, Has}
+use Rattle.printer.specs.Reads.{number_or, Has}
 use Rattle.printer.proofs.Under.{size, kid_of, kid-found, kid-print, kid-less, at-region}
 use Rattle.printer.proofs.Readings.{part-number, behind_kid}
 use Rattle.printer.proofs.Marking.{marks_for}
@@ -40,7 +43,7 @@ use Rattle.printer.proofs.Marking.{marks_for}
 -- ---- the pieces of a row in turn
 
 -- The pieces from n on are still to be printed, of the row of element i, whose parts have the marks m.
-pub record Rowing (image index : List ℕ) (i m end : ℕ) (o a : Held) (n : ℕ) : Type 0 where
+pub record Rowing (image index : List ℕ) (i m end : ℕ) (o a : Planner) (n : ℕ) : Type 0 where
   pub few : end ≤ piece_count
   pub marks : (q : ℕ) → n ≤ q → q < end → Marks (parts_of image index i) (tested (piece_at q)) m
   pub goes : Goes (source_at image index) (row (under image i) (parts_of image index i) (layout (kind_at index i))) (row (under image i) (parts_of image index i) (take (end - n) (drop n all_pieces))) o a
@@ -49,11 +52,11 @@ pieces-count : length all_pieces ≡ piece_count
 unfolding all_pieces rows flatten
 pieces-count = refl
 
-module _ {image index : List ℕ} {i m : ℕ} {o : Held} where
-  pub rowing-none : {e : Extent} {k : ℕ} → RowOf k e → k ≡ kind_at index i → Marks (parts_of image index i) (eqb e.marks 1) m → Rowing image index i m e.end o o e.start
+module _ {image index : List ℕ} {i m : ℕ} {o : Planner} where
+  pub rowing-none : {e : Extent} {k : ℕ} → RowOf k e → k ≡ kind_at index i → Marks (parts_of image index i) e.marks m → Rowing image index i m e.end o o e.start
   rowing-none r q s = record { few = r.within; marks = λ n h l. marks_for s (r.marking n h l); goes = rw (r.pieces_of, q) (goes_none _ o) }
 
-  pub rowing_more : {end n k : ℕ} {a b : Held} → Rowing image index i m end o a n → n < end
+  pub rowing_more : {end n k : ℕ} {a b : Planner} → Rowing image index i m end o a n → n < end
       → Plans (source_at image index) (when (asked (parts_of image index i) (piece_at n)) (what (under image i) (parts_of image index i) (piece_at n).what)) a b → k ≡ n + 1 → Rowing image index i m end o b k
   unfolding row
   rowing_more {end} {n} {k} r h p e =
@@ -66,10 +69,10 @@ module _ {image index : List ℕ} {i m : ℕ} {o : Held} where
       }
 
   -- the next piece is one of the table, and the marks are sure if it goes by parts
-  pub rowing-in : {end n : ℕ} {a : Held} → Rowing image index i m end o a n → n < end → Marks (parts_of image index i) (tested (piece_at n)) m × (n < piece_count)
+  pub rowing-in : {end n : ℕ} {a : Planner} → Rowing image index i m end o a n → n < end → Marks (parts_of image index i) (tested (piece_at n)) m × (n < piece_count)
   rowing-in {end} {n} r h = (r.marks n (omega arith) h, omega (arith, r.few))
 
-  pub rowing-all : {end n : ℕ} {a : Held} → Rowing image index i m end o a n → end ≤ n → Plans (source_at image index) (row (under image i) (parts_of image index i) (layout (kind_at index i))) o a
+  pub rowing-all : {end n : ℕ} {a : Planner} → Rowing image index i m end o a n → end ≤ n → Plans (source_at image index) (row (under image i) (parts_of image index i) (layout (kind_at index i))) o a
   unfolding row
   rowing-all {end} {n} r h = let q : end - n ≡ 0 = omega arith in goes-all r.goes (rw q)
 
@@ -86,7 +89,7 @@ module _ (pr : ℕ → Print) (ps : List Part) (n : ℕ) (x : Entry) (r : Bool) 
       go false h = refl
 
   -- it is asked for
-  pub piece-asked_lem : not r ≡ false → when (asked ps (piece_at n)) (what pr ps (piece_at n).what) ≡ what pr ps (what_of x.what x.want x.word)
+  pub piece-asked_lem : not r ≡ false → when (asked ps (piece_at n)) (what pr ps (piece_at n).what) ≡ what pr ps (what_of (what_in x.what) x.want x.word)
   unfolding when
   piece-asked_lem h = rw (← c.piece, ← e) (go r h)
     where
@@ -94,42 +97,36 @@ module _ (pr : ℕ → Print) (ps : List Part) (n : ℕ) (x : Entry) (r : Bool) 
       go true h = refl
       go false h = absurd (false≢true (sym h))
 
--- all parts of a class
-pub piece-each : (pr : ℕ → Print) (ps : List Part) (k w s : ℕ) → (eqb k 5 || eqb k 6) ≡ true → what pr ps (what_of k w s) ≡ each_of pr (want_at w).class (word_at s) (eqb k 6) ps
-unfolding what what_of
-piece-each pr ps k w s h = go (eqb k 5) refl (eqb k 6) refl h
-  where
-    go : (a : Bool) → eqb k 5 ≡ a → (b : Bool) → eqb k 6 ≡ b → (a || b) ≡ true → what pr ps (what_of k w s) ≡ each_of pr (want_at w).class (word_at s) b ps
-    go true p b q h = let m : k ≡ 5 = eqb-true k 5 p in rw (← q, m)
-    go false p true q h = let m : k ≡ 6 = eqb-true k 6 q in rw m
-    go false p false q h = absurd (false≢true h)
+module _ (pr : ℕ → Print) (ps : List Part) (x : Entry) {k : Code} (j : k ≡ what_in x.what) where
+  -- a text
+  pub piece-text : k ≡ C.Text → what pr ps (what_of (what_in x.what) x.want x.word) ≡ lit (word_at x.word)
+  unfolding what what_of
+  piece-text e = rw (← j, e)
 
--- a part
-pub piece-part : (pr : ℕ → Print) (ps : List Part) (x : Entry) → settled x ≡ true → 4 ≤ x.what → (eqb x.what 5 || eqb x.what 6) ≡ false
-    → what pr ps (what_of x.what x.want x.word) ≡ number_or pr (word_or_none x.word) (number_of (part_for x ps))
-unfolding what what_of word_or_none part_for
-piece-part pr ps x t h g = go (eqb x.what 4) refl (eqb x.word 0) refl t (or_false (eqb x.what 5) (eqb x.what 6) g)
-  where
-    left : (a : Bool) → (a || false) ≡ true → a ≡ true
-    left true h = refl
-    left false h = h
+  -- a newline, an indent or an outdent
+  pub piece-signal : {g : Signal} → k ≡ C.Signal g → what pr ps (what_of (what_in x.what) x.want x.word) ≡ say (signal g)
+  unfolding what what_of
+  piece-signal e = rw (← j, e)
 
-    go : (a : Bool) → eqb x.what 4 ≡ a → (b : Bool) → eqb x.word 0 ≡ b → cond a (not b || eqb (want_at x.want).place 0) (leb x.what 6 || b) ≡ true
-        → (eqb x.what 5 ≡ false) × (eqb x.what 6 ≡ false)
-        → what pr ps (what_of x.what x.want x.word) ≡ number_or pr (cond b none (lit (word_at x.word))) (number_of (cond a (nth (want_at x.want).class (want_at x.want).place ps) (plus_of ps)))
-    go true p true q t f =
-        let k : x.what ≡ 4 = eqb-true x.what 4 p in
-        let z : (want_at x.want).place ≡ 0 = eqb-true _ 0 t in
-        rw (k, q, z) (part-number pr none _)
-    go true p false q t f = let k : x.what ≡ 4 = eqb-true x.what 4 p in rw (k, q) (part-number pr (lit (word_at x.word)) _)
-    go false p true q t f =
-        let k : x.what ≡ 4 → ⊥ = eqb-false x.what 4 p in
-        rw (ne_eqb x.what 0 (omega arith), ne_eqb x.what 1 (omega arith), ne_eqb x.what 2 (omega arith), ne_eqb x.what 3 (omega arith), p, f.0, f.1) (part-number pr none (plus_of ps))
-    go false p false q t f =
-        let k : x.what ≡ 4 → ⊥ = eqb-false x.what 4 p in
-        let u : x.what ≡ 5 → ⊥ = eqb-false x.what 5 f.0 in
-        let v : x.what ≡ 6 → ⊥ = eqb-false x.what 6 f.1 in
-        absurd (omega (arith, leb-true x.what 6 (left (leb x.what 6) t)))
+  -- all parts of a class
+  pub piece-each : {ended : Bool} → k ≡ C.Each ended → what pr ps (what_of (what_in x.what) x.want x.word) ≡ each_of pr (want_at x.want).class (word_at x.word) ended ps
+  unfolding what what_of
+  piece-each e = rw (← j, e)
+
+  -- a part
+  pub piece-part : settled x ≡ true → k ≡ C.Part → what pr ps (what_of (what_in x.what) x.want x.word) ≡ number_or pr (word_or_none x.word) (number_of (nth (want_at x.want).class (want_at x.want).place ps))
+  unfolding what what_of word_or_none
+  piece-part t e = rw (← j, e) (go (eqb x.word 0) (rw (← j, e) at t))
+    where
+      go : (b : Bool) → (not b || eqb (want_at x.want).place 0) ≡ true
+          → what pr ps (cond b (Layout.opt (want_at x.want).class) (Layout.part (want_at x.want) (word_at x.word))) ≡ number_or pr (cond b none (lit (word_at x.word))) (number_of (nth (want_at x.want).class (want_at x.want).place ps))
+      go true t = let z : (want_at x.want).place ≡ 0 = eqb-true _ 0 t in rw z (part-number pr none _)
+      go false t = part-number pr (lit (word_at x.word)) _
+
+  -- the `+` of a field
+  pub piece-plus : settled x ≡ true → k ≡ C.Plus → what pr ps (what_of (what_in x.what) x.want x.word) ≡ number_or pr (word_or_none x.word) (number_of (plus_of ps))
+  unfolding what what_of word_or_none
+  piece-plus t e = let z : eqb x.word 0 ≡ true = rw (← j, e) at t in rw (← j, e, z) (part-number pr none (plus_of ps))
 
 -- ---- parts that were found
 
@@ -183,7 +180,7 @@ unfolding words
 front-word w h = sym (tabled-at true word_count (λ w. is_nil (ascii (word_at w))) w h) ∙ tabled-at true word_count (λ w. eqb w 0) w h
 
 -- a part of the class: the text in front, the part, and what ends it
-pub each-one : {image index : List ℕ} {i j : ℕ} (w : ℕ) (c : Class) (ended : Bool) {o a b d : Held} → w < word_count → Kid image index i j → one_of (kinds c) (kind_at index j) ≡ true
+pub each-one : {image index : List ℕ} {i j : ℕ} (w : ℕ) (c : Class) (ended : Bool) {o a b d : Planner} → w < word_count → Kid image index i j → one_of (kinds c) (kind_at index j) ≡ true
     → Plans (source_at image index) (word_or_none w) o a → Plans (source_at image index) (print_of image j) a b → Plans (source_at image index) (when ended (lit "," ⨟ say newline)) b d
     → Plans (source_at image index) (each_of (under image i) c (word_at w) ended (part_at image index j ∷ [])) o d
 unfolding each_of word_or_none
@@ -197,17 +194,17 @@ each-one w c ended l k h x y z = by (rw (h, front-word w l)) (by (front w) x ▸
         go false = unfold when in refl
 
 -- The parts from j on are still to be printed, of element i.
-pub record Eaching (image index : List ℕ) (i : ℕ) (c : Class) (s : String) (ended : Bool) (o a : Held) (j : ℕ) : Type 0 where
+pub record Eaching (image index : List ℕ) (i : ℕ) (c : Class) (s : String) (ended : Bool) (o a : Planner) (j : ℕ) : Type 0 where
   pub at : At image index i
   pub reached : Stretch image index (i + 1) j
   pub region : Region image index j (end_at index i)
   pub goes : Goes (source_at image index) (each_of (under image i) c s ended (parts_of image index i)) (each_of (under image i) c s ended (parts_from image index j (end_at index i))) o a
 
-module _ {image index : List ℕ} {i : ℕ} {o : Held} where
+module _ {image index : List ℕ} {i : ℕ} {o : Planner} where
   pub eaching-none : (c : Class) (s : String) (ended : Bool) {j : ℕ} → At image index i → j ≡ i + 1 → Eaching image index i c s ended o o j
   eaching-none c s ended t e = rw e (record { at = t; reached = stretch_none (at-region t refl refl); region = at-region t refl refl; goes = goes_none _ o })
 
-  module _ {c : Class} {s : String} {ended : Bool} {a : Held} {j end : ℕ} (r : Eaching image index i c s ended o a j) (e : end ≡ end_at index i) where
+  module _ {c : Class} {s : String} {ended : Bool} {a : Planner} {j end : ℕ} (r : Eaching image index i c s ended o a j) (e : end ≡ end_at index i) where
     -- the next part is a child
     pub eaching-kid : j < end → Kid image index i j
     eaching-kid h = kid_of r.at r.reached (omega (arith, e))
@@ -215,7 +212,7 @@ module _ {image index : List ℕ} {i : ℕ} {o : Held} where
     pub eaching-less : {k : ℕ} → j < end → k ≡ end_at index j → end - k < end - j
     eaching-less h q = omega (arith, region-past r.region (omega (arith, e)))
 
-    pub eaching-more : {k : ℕ} {b : Held} → j < end → k ≡ end_at index j → Plans (source_at image index) (each_of (under image i) c s ended (part_at image index j ∷ [])) a b → Eaching image index i c s ended o b k
+    pub eaching-more : {k : ℕ} {b : Planner} → j < end → k ≡ end_at index j → Plans (source_at image index) (each_of (under image i) c s ended (part_at image index j ∷ [])) a b → Eaching image index i c s ended o b k
     eaching-more h q p =
         let g : j < end_at index i = omega (arith, e) in
         rw q (record {

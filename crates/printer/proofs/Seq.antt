@@ -4,8 +4,9 @@ use mathlib.Core.Path.{refl}
 use mathlib.Core.List.{append-nil, append_assoc}
 use Rattle.items.specs.Item.{Item, Out, stop, ok, Context, Print, after, next, ◌⨟◌, none, when, keeping}
 use Rattle.numbers.specs.Mode.{keeps}
-use Rattle.plan.specs.Ops.{Source}
-use Rattle.plan.specs.Plans.{Held, Plans}
+use Rattle.tree.specs.Source.{Source}
+use Rattle.plan.specs.declared.Planner.{Planner}
+use Rattle.plan.specs.Plans.{Plans}
 use Rattle.plan.proofs.Laws.{idle, ◌▸◌, by}
 
 after_both : (xs ys : List Item) (o : Out) → after (xs ++ ys) o ≡ after xs (after ys o)
@@ -55,14 +56,14 @@ keeping_none = λ i c. go (keeps c.mode) i c
     go false = refl
 
 -- A loop that prints: whoever prints the rest from here has printed the whole.
-pub record Goes (src : Source) (whole rest : Print) (o a : Held) : Type 0 where
-  pub rest_of : {b : Held} → Plans src rest a b → Plans src whole o b
+pub record Goes (src : Source) (whole rest : Print) (o a : Planner) : Type 0 where
+  pub rest_of : {b : Planner} → Plans src rest a b → Plans src whole o b
 
-pub goes_none : {src : Source} (p : Print) (o : Held) → Goes src p p o o
+pub goes_none : {src : Source} (p : Print) (o : Planner) → Goes src p p o o
 goes_none p o = record { rest_of = λ h. h }
 
-pub goes-more : {src : Source} {p r x r' : Print} {o a b : Held} → Goes src p r o a → r ≡ x ⨟ r' → Plans src x a b → Goes src p r' o b
+pub goes-more : {src : Source} {p r x r' : Print} {o a b : Planner} → Goes src p r o a → r ≡ x ⨟ r' → Plans src x a b → Goes src p r' o b
 goes-more g e h = record { rest_of = λ k. g.rest_of (by e (h ▸ k)) }
 
-pub goes-all : {src : Source} {p r : Print} {o a : Held} → Goes src p r o a → r ≡ none → Plans src p o a
+pub goes-all : {src : Source} {p r : Print} {o a : Planner} → Goes src p r o a → r ≡ none → Plans src p o a
 goes-all g e = g.rest_of (by e idle)

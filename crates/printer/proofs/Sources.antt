@@ -5,7 +5,7 @@ use mathlib.Core.Option.{Option, none as nothing, some}
 use Rattle.items.specs.Item.{newline, ◌⨟◌, say, stopped, lit}
 use Rattle.comments.specs.Comments.{above_item, end_of_items}
 use Rattle.tree.specs.Tree.{Part, tree_of}
-use Rattle.tree.proofs.Accepted.{accepted}
+use Rattle.tree.proofs.Passing.{accepted}
 use Rattle.tree.specs.Answer.{found}
 use Rattle.tree.specs.declared.class.Class.TheVariants as Class
 use Rattle.tree.specs.Class.{first, number_of, all_of}

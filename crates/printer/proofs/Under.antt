@@ -10,7 +10,7 @@ use Rattle.tree.specs.Tree.{nil, Part, count_n, elements_of, forest, tree_of, te
 use Rattle.tree.specs.Image.{kind_in, level_in, size_in, text_in, element_in}
 use Rattle.tree.specs.Refusal.{node_with_text}
 use Rattle.tree.proofs.FirstWhere.{where_never}
-use Rattle.tree.proofs.Accepted.{Accepted, accepted}
+use Rattle.tree.proofs.Passing.{Accepted, accepted}
 use Rattle.tree.proofs.Ends.{end-in, end-deep}
 use Rattle.tree.proofs.Walk.{forest-none, forest-end, forest-here, forest-below}
 use Rattle.tree.specs.Index.{kind_at, end_at, text_at, Indexed, Region, end_in}

@@ -6,8 +6,9 @@ use native.Mathlib.Omega.{arith}
 use Rattle.items.specs.Item.{Print, none, stopped, keeping}
 use Rattle.comments.specs.Comments.{end_of_items}
 use Rattle.plan.specs.Comments.{comments}
-use Rattle.plan.specs.Ops.{source_at}
-use Rattle.plan.specs.Plans.{Held, Plans}
+use Rattle.tree.specs.Source.{source_at}
+use Rattle.plan.specs.declared.Planner.{Planner}
+use Rattle.plan.specs.Plans.{Plans}
 use Rattle.plan.proofs.Laws.{by, ◌▸◌}
 use Rattle.tree.specs.declared.class.Class.{Class}
 use Rattle.tree.specs.declared.class.Kinds.{Kinds}
@@ -96,45 +97,45 @@ module _ {image index : List ℕ} {i : ℕ} {w : Kinds} {loose : Bool} {b next :
 -- ---- children in turn
 
 -- The children from the gap s on are still to be printed, of those from the gap s₀ on.
-pub record Walking (image index : List ℕ) (i : ℕ) (w : Kinds) (loose : Bool) (b : ℕ) (turn : Turn) (s₀ : Span) (o a : Held) (s : Span) : Type 0 where
+pub record Walking (image index : List ℕ) (i : ℕ) (w : Kinds) (loose : Bool) (b : ℕ) (turn : Turn) (s₀ : Span) (o a : Planner) (s : Span) : Type 0 where
   pub walks : Walks image index i w loose b s
   pub goes : Goes (source_at image index) (walked turn (spanned image index w loose b s₀)) (walked turn (spanned image index w loose b s)) o a
 
-module _ {image index : List ℕ} {i : ℕ} {w : Kinds} {loose : Bool} {b : ℕ} {turn : Turn} {s : Span} {o : Held} where
+module _ {image index : List ℕ} {i : ℕ} {w : Kinds} {loose : Bool} {b : ℕ} {turn : Turn} {s : Span} {o : Planner} where
   pub walking-none : (c : Class) → w ≡ kinds c → Walks image index i (kinds c) loose b s → Walking image index i w loose b turn s o o s
   walking-none c k h = record { walks = rw k h; goes = goes_none _ o }
 
-  pub walking-more : {s₀ g : Span} {a d : Held} {next : ℕ} {v : Bool} → Walking image index i w loose b turn s₀ o a s → v ≡ is_child s.end → v ≡ true → next ≡ end_at index s.to → Spans image index w loose true next b g
+  pub walking-more : {s₀ g : Span} {a d : Planner} {next : ℕ} {v : Bool} → Walking image index i w loose b turn s₀ o a s → v ≡ is_child s.end → v ≡ true → next ≡ end_at index s.to → Spans image index w loose true next b g
       → Plans (source_at image index) (turn (gap_at image index s) s.to (gap_at image index g) (is_child g.end)) a d → Walking image index i w loose b turn s₀ o d g
   walking-more h j e q k p =
       let d = child_is s.end j e in
       record { walks = walks_next h.walks d q k; goes = goes-more h.goes (walk-next s d q k turn) p }
 
-  pub walking-all_lem : (c : Class) {s₀ : Span} {a : Held} {v : Bool} → w ≡ kinds c → Walking image index i w loose b turn s₀ o a s → v ≡ is_child s.end → v ≡ false
+  pub walking-all_lem : (c : Class) {s₀ : Span} {a : Planner} {v : Bool} → w ≡ kinds c → Walking image index i w loose b turn s₀ o a s → v ≡ is_child s.end → v ≡ false
       → Plans (source_at image index) (walked turn (spanned image index (kinds c) loose b s₀)) o a
   walking-all_lem c k h j e = rw (← k) (goes-all h.goes (walk_none index image w loose b s turn j e))
 
 -- ---- statements and suffixes
 
 -- the first gap of a reading
-module _ {image index : List ℕ} {w : Kinds} {z : Bounds} {s : Span} {o : Held} where
+module _ {image index : List ℕ} {w : Kinds} {z : Bounds} {s : Span} {o : Planner} where
   pub walking-first : (c : Class) {i : ℕ} {turn : Turn} → Within image index i z → w ≡ kinds c → Spans image index w z.loose false z.from z.to s → Walking image index i w z.loose z.to turn s o o s
   walking-first c h k p = walking-none c k (walks-first c h (rw k at p))
 
 -- The values from the gap s on are still to be printed, of those from the gap s₀ on, whatever element the reading is of.
-pub record Valuing (image index : List ℕ) (w : Kinds) (z : Bounds) (s₀ : Span) (o a : Held) (s : Span) : Type 0 where
+pub record Valuing (image index : List ℕ) (w : Kinds) (z : Bounds) (s₀ : Span) (o a : Planner) (s : Span) : Type 0 where
   pub walking : {i : ℕ} → Within image index i z → Walking image index i w z.loose z.to (alone (under image i)) s₀ o a s
 
-module _ {image index : List ℕ} {w : Kinds} {z : Bounds} {s : Span} {o : Held} where
+module _ {image index : List ℕ} {w : Kinds} {z : Bounds} {s : Span} {o : Planner} where
   pub valuing-none : (c : Class) → w ≡ kinds c → Spans image index w z.loose false z.from z.to s → Valuing image index w z s o o s
   valuing-none c k p = record { walking = λ h. walking-first c h k p }
 
-  pub valuing-more : {s₀ g : Span} {a d : Held} {next : ℕ} {v : Bool} → Valuing image index w z s₀ o a s → v ≡ is_child s.end → v ≡ true → next ≡ end_at index s.to
+  pub valuing-more : {s₀ g : Span} {a d : Planner} {next : ℕ} {v : Bool} → Valuing image index w z s₀ o a s → v ≡ is_child s.end → v ≡ true → next ≡ end_at index s.to
       → Spans image index w z.loose true next z.to g → Plans (source_at image index) (print_of image s.to) a d → Valuing image index w z s₀ o d g
   unfolding alone
   valuing-more r j e q k p = record { walking = λ h. walking-more (r.walking h) j e q k (by (kid-print (walks-kid (r.walking h).walks (child_is s.end j e))) p) }
 
-module _ {image index : List ℕ} {i : ℕ} {w : Kinds} {z : Bounds} {s s₀ : Span} {o a : Held} {out : Outline} {v : Bool} where
+module _ {image index : List ℕ} {i : ℕ} {w : Kinds} {z : Bounds} {s s₀ : Span} {o a : Planner} {out : Outline} {v : Bool} where
   -- the suffixes of a reading
   pub valuing-all : (c : Class) → Within image index i z → w ≡ kinds c → Spans image index w z.loose false z.from z.to s₀
       → Outlined image index (read_at image index c z nothing) out → Valuing image index w z s₀ o a s → v ≡ is_child s.end → v ≡ false → Plans (source_at image index) (values_of (under image i) (read_at image index c z nothing)) o a
@@ -144,7 +145,7 @@ module _ {image index : List ℕ} {i : ℕ} {w : Kinds} {z : Bounds} {s s₀ : S
   -- the statements of a reading, and what is left behind them
   pub stating-all : (c : Class) → w ≡ kinds c → Spans image index w z.loose false z.from z.to s₀
       → Outlined image index (read_at image index c z nothing) out → Walking image index i w z.loose z.to (stated (under image i)) s₀ o a s → v ≡ is_child s.end → v ≡ false
-      → {d : Held} → Plans (source_at image index) (keeping (comments (gap_at image index out.last).waiting end_of_items)) a d → Plans (source_at image index) (statements_of (under image i) (read_at image index c z nothing)) o d
+      → {d : Planner} → Plans (source_at image index) (keeping (comments (gap_at image index out.last).waiting end_of_items)) a d → Plans (source_at image index) (statements_of (under image i) (read_at image index c z nothing)) o d
   unfolding statements_of
   stating-all c k p x h j e q = by (rw (x.is, x.waits, read_walk (statements_turn (under image i)) c (spans_as k p) (outlined-whole x))) (walking-all_lem c k h j e ▸ q)
 

@@ -1,11 +1,10 @@
 -- Where the printers read: the readings of an element, and what is asked of them.
-use Rattle.std.specs.Prelude.{◌≡◌, ℕ, ◌+◌, ◌<◌, ◌≤◌, Bool, true, cond, List, [], ◌==◌}
+use Rattle.std.specs.Prelude.{◌≡◌, ℕ, ◌+◌, ◌<◌, ◌≤◌, Bool, true, List, []}
 use Rattle.std.proofs.Math.Option.{Option, none as nothing, some}
 use Rattle.items.specs.Item.{Print}
 use Rattle.tree.specs.Tree.{Part}
 use Rattle.tree.specs.declared.class.Class.{Class}
 use Rattle.tree.specs.declared.class.Kinds.{Kinds}
-use Rattle.tree.specs.Class.{nth, plus_of}
 use Rattle.tree.specs.Index.{Region, parts_from, end_at}
 use Rattle.children.specs.declared.between.Bounds.{Bounds}
 use Rattle.children.specs.declared.gap.End.TheVariants as End
@@ -14,8 +13,6 @@ use Rattle.children.specs.Reading.{Child, Ending, Reading, foreign, read, pass, 
 use Rattle.children.specs.Stretch.{Stretch}
 use Rattle.children.specs.Spans.{Lies}
 use Rattle.children.specs.Between.{has}
-use Rattle.printer.specs.declared.rows.Entry.{Entry}
-use Rattle.printer.specs.Rows.{want_at}
 use Rattle.printer.specs.Under.{At}
 
 -- ---- parts by their numbers
@@ -24,10 +21,6 @@ use Rattle.printer.specs.Under.{At}
 unfoldable pub number_or : (ℕ → Print) → Print → Option ℕ → Print
 number_or pr p nothing = p
 number_or pr p (some n) = pr n
-
--- the part that an entry names: the wanted one, or the `+` of a field
-unfoldable pub part_for : Entry → List Part → Option Part
-part_for x ps = cond (x.what == 4) (nth (want_at x.want).class (want_at x.want).place ps) (plus_of ps)
 
 -- A number that was found is a part's.
 pub record Has (ps : List Part) (n : Option ℕ) : Type 0 where

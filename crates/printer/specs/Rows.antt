@@ -1,5 +1,5 @@
 -- What the numbers in the code's tables mean: wanted parts and pieces of rows.
-use Rattle.std.specs.Prelude.{◌≡◌, ℕ, ◌-◌, ◌/◌, ◌%◌, ◌^◌, ◌<◌, ◌≤◌, Bool, true, false, cond, not, ◌&&◌, ◌||◌, List, [], ◌∷◌, ◌++◌, map, take, drop, ◌==◌, nat_le, slice_index_or}
+use Rattle.std.specs.Prelude.{◌≡◌, ℕ, ◌-◌, ◌/◌, ◌%◌, ◌^◌, ◌<◌, ◌≤◌, Bool, true, false, cond, not, ◌&&◌, ◌||◌, List, [], ◌∷◌, ◌++◌, map, take, drop, ◌==◌, slice_index_or, Option, Some, None, IfSome}
 use mathlib.Core.List.{flatten}
 use Rattle.items.specs.declared.Signal.TheVariants.{NewLine, StartIndent, FinishIndent}
 use Rattle.text.specs.Basic.{any, is_nil}
@@ -10,6 +10,8 @@ use Rattle.tree.specs.Class.{kinds, of_kind, is}
 use Rattle.plan.specs.Words.{word_at, word_count}
 use Rattle.printer.specs.declared.rows.Entry.{Entry}
 use Rattle.printer.specs.declared.rows.Extent.{Extent}
+use Rattle.printer.specs.declared.rows.What.{What as Code}
+use Rattle.printer.specs.declared.rows.What.TheVariants as C
 use Rattle.printer.specs.Layout.{Want, What, txt, bare, part, opt, each, plus, Piece, Row, first_of, second_of, t, rows, layout}
 
 -- the parts that rows want, by their numbers from 1; number 0 is the operators, of which the `+` of a field is one
@@ -32,25 +34,34 @@ want_count = 34
 abbrev pub want_at : ℕ → Want
 want_at w = slice_index_or wants w (first_of Class.Expr)
 
--- the part with a number as a list; number 0 is none
-unfoldable pub wanted : ℕ → List Want
-wanted w = cond (w == 0) [] (want_at w ∷ [])
+-- the part with a number, if any, as a list
+unfoldable pub wanted : Option ℕ → List Want
+wanted None = []
+wanted (Some w) = want_at w ∷ []
 
--- what a piece prints, from three numbers: its code, a wanted part and a text
-unfoldable pub what_of : ℕ → ℕ → ℕ → What
-what_of k w s =
-    cond (k == 0) (txt (word_at s))
-    (cond (k == 1) (bare NewLine)
-    (cond (k == 2) (bare StartIndent)
-    (cond (k == 3) (bare FinishIndent)
-    (cond (k == 4) (cond (s == 0) (opt (want_at w).class) (part (want_at w) (word_at s)))
-    (cond (k == 5) (each (want_at w).class (word_at s) false)
-    (cond (k == 6) (each (want_at w).class (word_at s) true)
-    plus))))))
+-- what a piece prints, from what the code says of it and the numbers of a wanted part and a text
+unfoldable pub what_of : Code → ℕ → ℕ → What
+what_of C.Text w s = txt (word_at s)
+what_of (C.Signal x) w s = bare x
+what_of C.Part w s = cond (s == 0) (opt (want_at w).class) (part (want_at w) (word_at s))
+what_of (C.Each ended) w s = each (want_at w).class (word_at s) ended
+what_of C.Plus w s = plus
+
+-- what an entry's number says that it prints
+abbrev pub what_in : ℕ → Code
+what_in k =
+    cond (k == 0) C.Text
+    (cond (k == 1) (C.Signal NewLine)
+    (cond (k == 2) (C.Signal StartIndent)
+    (cond (k == 3) (C.Signal FinishIndent)
+    (cond (k == 4) C.Part
+    (cond (k == 5) (C.Each false)
+    (cond (k == 6) (C.Each true)
+    C.Plus))))))
 
 -- the piece of an entry
 abbrev pub piece_of : Entry → Piece
-piece_of x = record { given = wanted x.given ++ wanted x.other; unless = wanted x.unless; what = what_of x.what x.want x.word }
+piece_of x = record { given = wanted x.given ++ wanted x.other; unless = wanted x.unless; what = what_of (what_in x.what) x.want x.word }
 
 -- a piece goes by the parts that are there
 abbrev pub tested : Piece → Bool
@@ -68,21 +79,33 @@ piece_count = 145
 abbrev pub piece_at : ℕ → Piece
 piece_at q = slice_index_or all_pieces q (t "")
 
+-- by what it prints: that a part or nothing is the first of its kinds, and that a `+` has no text
+abbrev pub settled_as : Code → ℕ → ℕ → Bool
+settled_as C.Text w s = true
+settled_as (C.Signal x) w s = true
+settled_as C.Part w s = not (s == 0) || (want_at w).place == 0
+settled_as (C.Each ended) w s = true
+settled_as C.Plus w s = s == 0
+
 -- an entry that prints a part or nothing names the first of its kinds, and one that prints a `+` has no text
 abbrev pub settled : Entry → Bool
-settled x = cond (x.what == 4) (not (x.word == 0) || (want_at x.want).place == 0) (nat_le x.what 6 || x.word == 0)
+settled x = settled_as (what_in x.what) x.want x.word
 
 -- the eight bits of a table's number from a place on
 abbrev pub bits_at : ℕ → ℕ → ℕ
 bits_at n s = n / 2 ^ s % 256
 
+-- the wanted part whose number stands there; number 0 is none
+abbrev pub part_named : ℕ → ℕ → Option ℕ
+part_named n s = cond (bits_at n s == 0) None (Some (bits_at n s))
+
 -- the entry that stands in a table's number
 abbrev pub entry_of : ℕ → Entry
-entry_of n = record { tested = not (n % 16777216 == 0); given = bits_at n 0; other = bits_at n 8; unless = bits_at n 16; what = bits_at n 24; want = bits_at n 32; word = bits_at n 40 }
+entry_of n = record { tested = not (n % 16777216 == 0); given = part_named n 0; other = part_named n 8; unless = part_named n 16; what = bits_at n 24; want = bits_at n 32; word = bits_at n 40 }
 
 -- the row that stands in it
 abbrev pub extent_of : ℕ → Extent
-extent_of n = record { start = bits_at n 0; end = bits_at n 8; marks = bits_at n 16 }
+extent_of n = record { start = bits_at n 0; end = bits_at n 8; marks = not (bits_at n 16 == 0) }
 
 -- the kinds that stand in it
 abbrev pub kinds_in : ℕ → Kinds
@@ -92,9 +115,9 @@ kinds_in n = record { lo = bits_at n 0; hi = bits_at n 8; but = bits_at n 16 }
 pub record Coded (q : ℕ) (x : Entry) : Type 0 where
   pub piece : piece_of x ≡ piece_at q
   pub tests : x.tested ≡ tested (piece_of x)
-  pub given : x.given < want_count
-  pub other : x.other < want_count
-  pub unless : x.unless < want_count
+  pub given : IfSome x.given (λ w. w < want_count)
+  pub other : IfSome x.other (λ w. w < want_count)
+  pub unless : IfSome x.unless (λ w. w < want_count)
   pub want : x.want < want_count
   pub word : x.word < word_count
   pub settles : settled x ≡ true
@@ -103,7 +126,7 @@ pub record Coded (q : ℕ) (x : Entry) : Type 0 where
 pub record RowOf (k : ℕ) (r : Extent) : Type 0 where
   pub pieces_of : take (r.end - r.start) (drop r.start all_pieces) ≡ layout k
   pub within : r.end ≤ piece_count
-  pub marking : (q : ℕ) → r.start ≤ q → q < r.end → tested (piece_at q) ≡ true → (r.marks == 1) ≡ true
+  pub marking : (q : ℕ) → r.start ≤ q → q < r.end → tested (piece_at q) ≡ true → r.marks ≡ true
 
 -- A number holds the kinds of wanted part w, and which of them it is.
 pub record WantOf (w n : ℕ) : Type 0 where

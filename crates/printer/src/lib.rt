@@ -21,72 +21,59 @@ use comments::CommentLocation;
 use items::Signal;
 use look::{first_in, first_of};
 use numbers::Element;
+use plan::Planner;
 use plan::notes::plan_notes;
 use plan::words::MISSING_EXPR;
-use plan::{plan_signal, stop_at};
 use printers::part;
-use tree::Found;
-use tree::access::end_at;
+use tree::Tree;
 use tree::class::Class;
 
 // The root of the tree.
 const ROOT: u32 = 0;
 
 // SourceFile::print: the expression with the comments around it.
-pub fn plan_source(ops: &mut [u32], cells: &mut [u32; 8], image: &[u8], index: &[u32])
-    requires { Indexed image.now index.now }
-    ensures { PlansIn ops cells image index (source_file (tree_of image.now)) }
+pub fn plan_source(planner: &mut Planner, tree: &Tree)
+    requires { Indexed tree.now.image tree.now.index }
+    ensures { PlansIn planner tree (source_file (tree_of tree.now.image)) }
 {
-    let e = first_of(image, index, Element(ROOT), Class::Expr);
-    let a = first_in(image, index, Element(ROOT));
-    let b = end_at(index, ROOT);
-    let before = trivia_before(image, index, e, a, b);
-    let after = trivia_after(image, index, e, a, b);
+    let e = first_of(tree, Element(ROOT), Class::Expr);
+    let a = first_in(tree, Element(ROOT));
+    let b = tree.end_at(ROOT);
+    let before = trivia_before(tree, e, a, b);
+    let after = trivia_after(tree, e, a, b);
     let f = before.foreign;
-    if let Found::At(x) = f {
-        stop_at(cells, x);
+    if let Some(x) = f {
+        planner.stop_at(x);
         return;
     }
     let g = after.foreign;
-    if let Found::At(x) = g {
-        stop_at(cells, x);
+    if let Some(x) = g {
+        planner.stop_at(x);
         return;
     }
-    plan_whole(ops, cells, image, index, e, before, after);
+    plan_whole(planner, tree, e, before, after);
 }
 
 // The comments before the expression, the expression, and the comments behind it.
-fn plan_whole(
-    ops: &mut [u32],
-    cells: &mut [u32; 8],
-    image: &[u8],
-    index: &[u32],
-    e: Found,
-    before: Notes,
-    after: Notes,
-)
-    requires at { At image.now index.now 0 }
-    requires has { Has (parts_of image.now index.now 0) (found e) }
-    requires region { Region image.now index.now before.from before.to }
-    requires region_2 { Region image.now index.now after.from after.to }
-    ensures { PlansIn ops cells image index (whole_in image index before (found e) after) }
+fn plan_whole(planner: &mut Planner, tree: &Tree, e: Option<Element>, before: Notes, after: Notes)
+    requires at { At tree.now.image tree.now.index 0 }
+    requires has { Has (parts_of tree.now.image tree.now.index 0) (found e) }
+    requires region { Region tree.now.image tree.now.index before.from before.to }
+    requires region_2 { Region tree.now.image tree.now.index after.from after.to }
+    ensures { PlansIn planner tree (whole_in tree before (found e) after) }
 {
     plan_notes(
-        ops,
-        cells,
-        image,
-        index,
+        planner,
+        tree,
         before.from,
         before.to,
         CommentLocation::AboveItem,
     );
-    part(ops, cells, image, index, Element(ROOT), e, MISSING_EXPR);
-    plan_signal(ops, cells, Signal::NewLine);
+    part(planner, tree, Element(ROOT), e, MISSING_EXPR);
+    planner.plan_signal(Signal::NewLine);
     plan_notes(
-        ops,
-        cells,
-        image,
-        index,
+        planner,
+        tree,
         after.from,
         after.to,
         CommentLocation::EndOfItems,

@@ -17,12 +17,13 @@ use children::survey::{Outline, nothing_waits};
 use comments::CommentLocation;
 use items::{Condition, Signal};
 use numbers::{Mark, Run};
+use plan::Planner;
 use plan::notes::{plan_inline, plan_waiting};
 use plan::words::{
     COMMA, EMPTY_ARRAY, EMPTY_OBJECT, LEFT_BRACE, LEFT_BRACKET, LOCAL, RIGHT_BRACE, RIGHT_BRACKET,
     SPACE,
 };
-use plan::{end_run, is_keeping, open_run, plan_again, plan_if, plan_mark, plan_signal, plan_word};
+use tree::Tree;
 use tree::class::Class;
 
 // The kinds of lists: elements of an array or members of an object; arguments; members of an object comprehension, and its
@@ -37,151 +38,129 @@ pub enum Style {
 }
 
 // A newline, if it is asked for.
-pub fn newline_if(ops: &mut [u32], cells: &mut [u32; 8], b: bool)
-    ensures { PlansAny ops cells (newline_if b) }
+pub fn newline_if(planner: &mut Planner, b: bool)
+    ensures { PlansAny planner (newline_if b) }
 {
     if b {
-        plan_signal(ops, cells, Signal::NewLine);
+        planner.plan_signal(Signal::NewLine);
     }
 }
 
 // A comma, where a test holds.
-fn trailing_comma(ops: &mut [u32], cells: &mut [u32; 8], t: Condition)
-    ensures { PlansAny ops cells (only_if (condition_test t) (lit ",")) }
+fn trailing_comma(planner: &mut Planner, t: Condition)
+    ensures { PlansAny planner (only_if (condition_test t) (lit ",")) }
 {
-    plan_if(ops, cells, t);
-    plan_word(ops, cells, COMMA);
-    plan_signal(ops, cells, Signal::EndIf);
+    planner.plan_if(t);
+    planner.plan_word(COMMA);
+    planner.plan_signal(Signal::EndIf);
 }
 
 // A newline where a test holds, else a space or newline.
-fn separator(ops: &mut [u32], cells: &mut [u32; 8], t: Condition)
-    ensures { PlansAny ops cells (separator (condition_test t)) }
+fn separator(planner: &mut Planner, t: Condition)
+    ensures { PlansAny planner (separator (condition_test t)) }
 {
-    plan_if(ops, cells, t);
-    plan_signal(ops, cells, Signal::NewLine);
-    plan_signal(ops, cells, Signal::Else);
-    plan_signal(ops, cells, Signal::SpaceOrNewLine);
-    plan_signal(ops, cells, Signal::EndIf);
+    planner.plan_if(t);
+    planner.plan_signal(Signal::NewLine);
+    planner.plan_signal(Signal::Else);
+    planner.plan_signal(Signal::SpaceOrNewLine);
+    planner.plan_signal(Signal::EndIf);
 }
 
 // A comma where more children follow, else one where a test holds.
-fn comma(ops: &mut [u32], cells: &mut [u32; 8], more: bool, t: Condition)
-    ensures { PlansAny ops cells (comma more (condition_test t)) }
+fn comma(planner: &mut Planner, more: bool, t: Condition)
+    ensures { PlansAny planner (comma more (condition_test t)) }
 {
     if more {
-        plan_word(ops, cells, COMMA);
+        planner.plan_word(COMMA);
         return;
     }
-    trailing_comma(ops, cells, t);
+    trailing_comma(planner, t);
 }
 
 // What follows a child on its line.
-fn on_line(ops: &mut [u32], cells: &mut [u32; 8], style: Style, t: Condition, more: bool)
-    ensures { PlansAny ops cells (on_line style (condition_test t) more) }
+fn on_line(planner: &mut Planner, style: Style, t: Condition, more: bool)
+    ensures { PlansAny planner (on_line style (condition_test t) more) }
 {
     match style {
-        Style::Elements => comma(ops, cells, more, t),
-        Style::Arguments => comma(ops, cells, more, t),
-        Style::Members => trailing_comma(ops, cells, t),
+        Style::Elements => comma(planner, more, t),
+        Style::Arguments => comma(planner, more, t),
+        Style::Members => trailing_comma(planner, t),
         Style::Specs => {}
-        Style::Binds => plan_word(ops, cells, COMMA),
+        Style::Binds => planner.plan_word(COMMA),
     }
 }
 
 // A separator, if more children follow.
-fn separator_if(ops: &mut [u32], cells: &mut [u32; 8], more: bool, t: Condition)
-    ensures { PlansAny ops cells (when more (separator (condition_test t))) }
+fn separator_if(planner: &mut Planner, more: bool, t: Condition)
+    ensures { PlansAny planner (when more (separator (condition_test t))) }
 {
     if more {
-        separator(ops, cells, t);
+        separator(planner, t);
     }
 }
 
 // What stands behind a child and its comments.
-fn behind_it(ops: &mut [u32], cells: &mut [u32; 8], style: Style, t: Condition, more: bool)
-    ensures { PlansAny ops cells (behind_it style (condition_test t) more) }
+fn behind_it(planner: &mut Planner, style: Style, t: Condition, more: bool)
+    ensures { PlansAny planner (behind_it style (condition_test t) more) }
 {
     match style {
-        Style::Elements => separator(ops, cells, t),
-        Style::Arguments => separator_if(ops, cells, more, t),
-        Style::Members => separator(ops, cells, t),
-        Style::Specs => separator(ops, cells, t),
-        Style::Binds => plan_signal(ops, cells, Signal::NewLine),
+        Style::Elements => separator(planner, t),
+        Style::Arguments => separator_if(planner, more, t),
+        Style::Members => separator(planner, t),
+        Style::Specs => separator(planner, t),
+        Style::Binds => planner.plan_signal(Signal::NewLine),
     }
 }
 
 // What stands before a child: a blank line and the comments above it.
-pub fn plan_above(ops: &mut [u32], cells: &mut [u32; 8], image: &[u8], index: &[u32], s: Span)
-    requires { Lies image.now index.now s }
-    ensures { PlansIn ops cells image index (above (gap_in image index s)) }
+pub fn plan_above(planner: &mut Planner, tree: &Tree, s: Span)
+    requires { Lies tree.now.image tree.now.index s }
+    ensures { PlansIn planner tree (above (gap_in tree s)) }
 {
-    let blank = blank_line(image, index, s);
-    newline_if(ops, cells, blank);
-    plan_waiting(ops, cells, image, index, s, CommentLocation::AboveItem);
+    let blank = blank_line(tree, s);
+    newline_if(planner, blank);
+    plan_waiting(planner, tree, s, CommentLocation::AboveItem);
 }
 
 // What waits in a gap, if it is kept.
-pub fn keep_waiting(
-    ops: &mut [u32],
-    cells: &mut [u32; 8],
-    image: &[u8],
-    index: &[u32],
-    s: Span,
-    loc: CommentLocation,
-)
-    requires { Lies image.now index.now s }
-    ensures { PlansIn ops cells image index (keeping (comments (gap_in image index s).waiting (place loc))) }
+pub fn keep_waiting(planner: &mut Planner, tree: &Tree, s: Span, loc: CommentLocation)
+    requires { Lies tree.now.image tree.now.index s }
+    ensures { PlansIn planner tree (keeping (comments (gap_in tree s).waiting (place loc))) }
 {
-    if is_keeping(cells) {
-        plan_waiting(ops, cells, image, index, s, loc);
+    if planner.is_keeping() {
+        plan_waiting(planner, tree, s, loc);
     }
 }
 
 // The inline trivia of a gap, if it is kept.
-pub fn keep_inline(
-    ops: &mut [u32],
-    cells: &mut [u32; 8],
-    image: &[u8],
-    index: &[u32],
-    g: Span,
-    loc: CommentLocation,
-)
-    requires { Lies image.now index.now g }
-    ensures { PlansIn ops cells image index (keeping (comments (gap_in image index g).inline (place loc))) }
+pub fn keep_inline(planner: &mut Planner, tree: &Tree, g: Span, loc: CommentLocation)
+    requires { Lies tree.now.image tree.now.index g }
+    ensures { PlansIn planner tree (keeping (comments (gap_in tree g).inline (place loc))) }
 {
-    if is_keeping(cells) {
-        plan_inline(ops, cells, image, index, g, loc);
+    if planner.is_keeping() {
+        plan_inline(planner, tree, g, loc);
     }
 }
 
 // What follows a child, with the gap behind it.
-pub fn plan_behind(
-    ops: &mut [u32],
-    cells: &mut [u32; 8],
-    image: &[u8],
-    index: &[u32],
-    g: Span,
-    style: Style,
-    t: Condition,
-)
-    requires { Lies image.now index.now g }
-    ensures { PlansIn ops cells image index (following_in image index style t g) }
+pub fn plan_behind(planner: &mut Planner, tree: &Tree, g: Span, style: Style, t: Condition)
+    requires { Lies tree.now.image tree.now.index g }
+    ensures { PlansIn planner tree (following_in tree style t g) }
 {
     let more = at_child(g);
-    on_line(ops, cells, style, t, more);
-    plan_inline(ops, cells, image, index, g, CommentLocation::ItemInline);
-    behind_it(ops, cells, style, t, more);
+    on_line(planner, style, t, more);
+    plan_inline(planner, tree, g, CommentLocation::ItemInline);
+    behind_it(planner, style, t, more);
 }
 
 // end_comments: a blank line, if one is asked for, and the comments behind the last child.
-pub fn plan_ending(ops: &mut [u32], cells: &mut [u32; 8], image: &[u8], index: &[u32], o: Outline)
-    requires { Lies image.now index.now o.last }
-    ensures { PlansIn ops cells image index (ending (ending_in image index o)) }
+pub fn plan_ending(planner: &mut Planner, tree: &Tree, o: Outline)
+    requires { Lies tree.now.image tree.now.index o.last }
+    ensures { PlansIn planner tree (ending (ending_in tree o)) }
 {
-    newline_if(ops, cells, o.blank);
+    newline_if(planner, o.blank);
     let last = o.last;
-    plan_waiting(ops, cells, image, index, last, CommentLocation::EndOfItems);
+    plan_waiting(planner, tree, last, CommentLocation::EndOfItems);
 }
 
 // The test for many lines of list k.
@@ -209,88 +188,72 @@ fn second_mark(k: Run) -> Mark
 }
 
 // Opens list k: its bracket and first mark, the branch of many lines, its run and a group.
-pub fn open_list(ops: &mut [u32], cells: &mut [u32; 8], bracket: u32, k: Run, t: Condition)
+pub fn open_list(planner: &mut Planner, bracket: u32, k: Run, t: Condition)
     requires { bracket < word_count }
-    ensures { PlansAny ops cells (open_list (word_at bracket) k.0 (condition_test t)) }
+    ensures { PlansAny planner (open_list (word_at bracket) k.0 (condition_test t)) }
 {
-    plan_word(ops, cells, bracket);
-    plan_mark(ops, cells, first_mark(k));
-    plan_if(ops, cells, t);
-    plan_signal(ops, cells, Signal::StartBlock);
-    plan_signal(ops, cells, Signal::NewLine);
-    open_run(ops, cells);
-    plan_signal(ops, cells, Signal::StartGroup);
+    planner.plan_word(bracket);
+    planner.plan_mark(first_mark(k));
+    planner.plan_if(t);
+    planner.plan_signal(Signal::StartBlock);
+    planner.plan_signal(Signal::NewLine);
+    planner.open_run();
+    planner.plan_signal(Signal::StartGroup);
 }
 
 // Ends the group and the run of list k, and its block.
-fn end_body(ops: &mut [u32], cells: &mut [u32; 8], k: Run)
-    ensures { PlansAny ops cells (end_body k.0) }
+fn end_body(planner: &mut Planner, k: Run)
+    ensures { PlansAny planner (end_body k.0) }
 {
-    plan_signal(ops, cells, Signal::FinishGroup);
-    end_run(ops, cells, k);
-    plan_signal(ops, cells, Signal::FinishBlock);
+    planner.plan_signal(Signal::FinishGroup);
+    planner.end_run(k);
+    planner.plan_signal(Signal::FinishBlock);
 }
 
 // Repeats the body of list k, and ends the branches.
-fn repeat_body(ops: &mut [u32], cells: &mut [u32; 8], k: Run)
-    ensures { PlansAny ops cells (repeat_body k.0) }
+fn repeat_body(planner: &mut Planner, k: Run)
+    ensures { PlansAny planner (repeat_body k.0) }
 {
-    plan_again(ops, cells, k);
-    plan_signal(ops, cells, Signal::EndIf);
+    planner.plan_again(k);
+    planner.plan_signal(Signal::EndIf);
 }
 
 // Closes the bracket of list k.
-fn close_bracket(ops: &mut [u32], cells: &mut [u32; 8], bracket: u32, k: Run)
+fn close_bracket(planner: &mut Planner, bracket: u32, k: Run)
     requires { bracket < word_count }
-    ensures { PlansAny ops cells (close_bracket (word_at bracket) k.0) }
+    ensures { PlansAny planner (close_bracket (word_at bracket) k.0) }
 {
-    plan_word(ops, cells, bracket);
-    plan_mark(ops, cells, second_mark(k));
+    planner.plan_word(bracket);
+    planner.plan_mark(second_mark(k));
 }
 
 // Closes a list made by with_indent_eoi, behind its inner group.
-pub fn close_list(
-    ops: &mut [u32],
-    cells: &mut [u32; 8],
-    image: &[u8],
-    index: &[u32],
-    bracket: u32,
-    k: Run,
-    o: Outline,
-)
+pub fn close_list(planner: &mut Planner, tree: &Tree, bracket: u32, k: Run, o: Outline)
     requires bracket_lt_word_count { bracket < word_count }
-    requires lies { Lies image.now index.now o.last }
-    ensures { PlansIn ops cells image index (close_list (word_at bracket) k.0 (ending_in image index o)) }
+    requires lies { Lies tree.now.image tree.now.index o.last }
+    ensures { PlansIn planner tree (close_list (word_at bracket) k.0 (ending_in tree o)) }
 {
-    plan_signal(ops, cells, Signal::FinishGroup);
-    plan_ending(ops, cells, image, index, o);
-    end_body(ops, cells, k);
-    plan_signal(ops, cells, Signal::Else);
-    plan_word(ops, cells, SPACE);
-    repeat_body(ops, cells, k);
-    close_bracket(ops, cells, bracket, k);
+    planner.plan_signal(Signal::FinishGroup);
+    plan_ending(planner, tree, o);
+    end_body(planner, k);
+    planner.plan_signal(Signal::Else);
+    planner.plan_word(SPACE);
+    repeat_body(planner, k);
+    close_bracket(planner, bracket, k);
 }
 
 // Closes a list of arguments.
-pub fn close_arguments(
-    ops: &mut [u32],
-    cells: &mut [u32; 8],
-    image: &[u8],
-    index: &[u32],
-    bracket: u32,
-    k: Run,
-    o: Outline,
-)
+pub fn close_arguments(planner: &mut Planner, tree: &Tree, bracket: u32, k: Run, o: Outline)
     requires bracket_lt_word_count { bracket < word_count }
-    requires lies { Lies image.now index.now o.last }
-    ensures { PlansIn ops cells image index (close_arguments (word_at bracket) k.0 (ending_in image index o)) }
+    requires lies { Lies tree.now.image tree.now.index o.last }
+    ensures { PlansIn planner tree (close_arguments (word_at bracket) k.0 (ending_in tree o)) }
 {
-    end_body(ops, cells, k);
-    plan_signal(ops, cells, Signal::NewLine);
-    plan_signal(ops, cells, Signal::Else);
-    repeat_body(ops, cells, k);
-    plan_ending(ops, cells, image, index, o);
-    close_bracket(ops, cells, bracket, k);
+    end_body(planner, k);
+    planner.plan_signal(Signal::NewLine);
+    planner.plan_signal(Signal::Else);
+    repeat_body(planner, k);
+    plan_ending(planner, tree, o);
+    close_bracket(planner, bracket, k);
 }
 
 // Lists with a text of their own where they are empty: the elements of an array, the members of an object.
@@ -361,12 +324,12 @@ pub fn close_word(l: ListKind) -> u32
 }
 
 // Whether a list prints as empty: no child, no blank line and nothing behind.
-pub fn is_empty(image: &[u8], index: &[u32], o: Outline) -> bool
-    requires { Lies image.now index.now o.last }
-    ensures { result ≡ ((o.children == 0 && not o.blank) && is_nil (gap_in image index o.last).waiting) }
+pub fn is_empty(tree: &Tree, o: Outline) -> bool
+    requires { Lies tree.now.image tree.now.index o.last }
+    ensures { result ≡ ((o.children == 0 && not o.blank) && is_nil (gap_in tree o.last).waiting) }
 {
     let last = o.last;
-    let nothing = nothing_waits(image, index, last);
+    let nothing = nothing_waits(tree, last);
     (o.children == 0) & !o.blank & nothing
 }
 
@@ -374,32 +337,23 @@ pub fn is_empty(image: &[u8], index: &[u32], o: Outline) -> bool
 pub fn unasked(s: Span) -> Span
     ensures { result ≡ record { from = s.from; cut = s.cut; to = s.to; had = false; end = s.end; tally = s.tally } }
 {
-    let end = s.end;
-    let tally = s.tally;
-    Span {
-        from: s.from,
-        cut: s.cut,
-        to: s.to,
-        had: false,
-        end,
-        tally,
-    }
+    Span { had: false, ..s }
 }
 
 // Opens a local statement with no bind, or with several.
-pub fn open_binds(ops: &mut [u32], cells: &mut [u32; 8])
-    ensures { PlansAny ops cells (lit "local" ⨟ say indent ⨟ say newline) }
+pub fn open_binds(planner: &mut Planner)
+    ensures { PlansAny planner (lit "local" ⨟ say indent ⨟ say newline) }
 {
-    plan_word(ops, cells, LOCAL);
-    plan_signal(ops, cells, Signal::StartIndent);
-    plan_signal(ops, cells, Signal::NewLine);
+    planner.plan_word(LOCAL);
+    planner.plan_signal(Signal::StartIndent);
+    planner.plan_signal(Signal::NewLine);
 }
 
 // Closes it.
-pub fn close_binds(ops: &mut [u32], cells: &mut [u32; 8], image: &[u8], index: &[u32], o: Outline)
-    requires { Lies image.now index.now o.last }
-    ensures { PlansIn ops cells image index (ending (ending_in image index o) ⨟ say outdent) }
+pub fn close_binds(planner: &mut Planner, tree: &Tree, o: Outline)
+    requires { Lies tree.now.image tree.now.index o.last }
+    ensures { PlansIn planner tree (ending (ending_in tree o) ⨟ say outdent) }
 {
-    plan_ending(ops, cells, image, index, o);
-    plan_signal(ops, cells, Signal::FinishIndent);
+    plan_ending(planner, tree, o);
+    planner.plan_signal(Signal::FinishIndent);
 }

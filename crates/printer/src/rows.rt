@@ -1,45 +1,46 @@
 // The rows of pieces: what nodes with a fixed layout print.
 ghost use Rattle.std.specs.Prelude.{◌≡◌, ◌<◌};
 ghost use Rattle.tree.specs.Class.{kinds};
-ghost use Rattle.printer.specs.Rows.{want_at, bits_at, entry_of, extent_of, Coded, RowOf, WantOf, MarksOf, want_count, piece_count};
+ghost use Rattle.printer.specs.Rows.{want_at, bits_at, part_named, what_in, entry_of, extent_of, Coded, RowOf, WantOf, MarksOf, want_count, piece_count};
 
+use items::Signal;
 use tree::class::Kinds;
 
-// What a piece prints: a text; a newline; an indent; an outdent; a part, or the text if it is missing; all parts of a class;
-// the same, each before a comma and a newline; the `+` of a field.
-pub const TEXT: u32 = 0;
-
-pub const NEW_LINE: u32 = 1;
-
-pub const INDENT: u32 = 2;
-
-pub const OUTDENT: u32 = 3;
-
-pub const PART: u32 = 4;
-
-pub const EACH: u32 = 5;
-
-pub const EACH_ENDED: u32 = 6;
+// What a piece prints.
+#[derive(Clone, Copy)]
+pub enum What {
+    // A text.
+    Text,
+    // A newline, an indent or an outdent.
+    Signal(Signal),
+    // A part, or the text if it is missing.
+    Part,
+    // All parts of a class; ended: each before a comma and a newline.
+    Each { ended: bool },
+    // The `+` of a field.
+    Plus,
+}
 
 // A piece: whether it goes by other parts, and then only if one of two is there, where any is named, and a third is not; what it prints,
-// of which part, with which text.
+// of which part, with which text. What it prints stays a number until `what_in` reads it where it is matched: read with the other
+// numbers it makes 145 jumps of the table's one load, which cost 6 of 100 instructions of the printers.
 #[derive(Clone, Copy)]
 pub struct Entry {
     pub tested: bool,
-    pub given: u32,
-    pub other: u32,
-    pub unless: u32,
+    pub given: Option<u32>,
+    pub other: Option<u32>,
+    pub unless: Option<u32>,
     pub what: u32,
     pub want: u32,
     pub word: u32,
 }
 
-// The pieces of a row, from one to before another, and 1 if the parts of its node are marked first.
+// The pieces of a row, from one to before another, and whether the parts of its node are marked first.
 #[derive(Clone, Copy)]
 pub struct Extent {
     pub start: u32,
     pub end: u32,
-    pub marks: u32,
+    pub marks: bool,
 }
 
 // Marks of a node's parts: a bit for each wanted part whose class one of them is of, by its number; all of them; the number of operators,
@@ -143,7 +144,7 @@ pub fn row_of(k: u32) -> Extent
     Extent {
         start: bits_at(code, 0),
         end: bits_at(code, 8),
-        marks: bits_at(code, 16),
+        marks: bits_at(code, 16) != 0,
     }
 }
 
@@ -302,6 +303,33 @@ fn piece_code(q: u32) -> u64
     }
 }
 
+// The wanted part whose number stands there; number 0 is none.
+fn part_named(code: u64, place: u32) -> Option<u32>
+    requires { place < 64 }
+    ensures { result ≡ part_named code place }
+{
+    match bits_at(code, place) {
+        0 => None,
+        w => Some(w),
+    }
+}
+
+// What a piece prints, by its number.
+pub fn what_in(k: u32) -> What
+    ensures { result ≡ what_in k }
+{
+    match k {
+        0 => What::Text,
+        1 => What::Signal(Signal::NewLine),
+        2 => What::Signal(Signal::StartIndent),
+        3 => What::Signal(Signal::FinishIndent),
+        4 => What::Part,
+        5 => What::Each { ended: false },
+        6 => What::Each { ended: true },
+        _ => What::Plus,
+    }
+}
+
 // The piece with a number.
 pub fn entry_at(q: u32) -> Entry
     requires { q < piece_count }
@@ -310,9 +338,9 @@ pub fn entry_at(q: u32) -> Entry
     let code = piece_code(q);
     Entry {
         tested: code % CONDITION != 0,
-        given: bits_at(code, 0),
-        other: bits_at(code, 8),
-        unless: bits_at(code, 16),
+        given: part_named(code, 0),
+        other: part_named(code, 8),
+        unless: part_named(code, 16),
         what: bits_at(code, 24),
         want: bits_at(code, 32),
         word: bits_at(code, 40),

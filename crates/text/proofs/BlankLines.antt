@@ -92,7 +92,7 @@ lead-kept b (g ∷ gs) = go (continues g) refl
         (drop_end-cons is_white (b ∷ []) (g ∷ gs))
 
 -- the characters that stay are those of the text that stays
-kept-chars : (s : List ℕ) → drop_end is_white (chars s) ≡ chars (trim_end s)
+pub kept-chars : (s : List ℕ) → drop_end is_white (chars s) ≡ chars (trim_end s)
 unfolding chars trim_end drop_end flatten
 kept-chars [] = refl
 kept-chars (b ∷ s) =

@@ -1,11 +1,12 @@
 -- What a byte is: its lead length, read off its class number below the two flags, and the flags, found by comparing.
 use mathlib.Core.Path.{◌≡◌, refl}
-use mathlib.Core.Bool.{Bool, true, false, cond, not, ◌&&◌, ◌||◌}
+use mathlib.Core.Bool.{Bool, true, false, cond, ◌||◌}
 use mathlib.Core.List.{[], ◌∷◌}
 use Prim.Native.Nat.{ℕ, ◌+◌, ◌%◌, ◌<◌}
 use native.Mathlib.Omega.{arith}
-use lib.Dec.{eqb, leb, ltb}
+use lib.Dec.{eqb, ltb}
 use borrow.Author.Tests.{ltb-true}
+use Rattle.std.specs.Char.{is_ascii_whitespace}
 use Rattle.text.specs.Basic.{any, same_bytes}
 use Rattle.text.specs.Text.{class_of, lead_length, follows, is_pad, is_white, white_space, utf8}
 use Rattle.text.proofs.Below.{below, same-below}
@@ -28,12 +29,12 @@ pub class-lead : (x b : ℕ) → b < 256 → x ≡ class_of b → x % 8 ≡ lead
 unfolding class_of
 class-lead x b h e = rw e (lead-packed (lead_length b) (is_pad b) (is_white (b ∷ [])) (lead-small b h))
 
--- the compares that stand for a flag, at every byte
+-- the tests that stand for a flag, at every byte
 
-pub pad_compared : (b : ℕ) → b < 256 → (((leb 9 b && leb b 13) && not (eqb b 11)) || eqb b 32 || eqb b 42) ≡ is_pad b
+pub pad_tested : (b : ℕ) → b < 256 → (is_ascii_whitespace b || eqb b 42) ≡ is_pad b
 unfolding is_pad any
-pad_compared = same-below 256 (λ k. ((leb 9 k && leb k 13) && not (eqb k 11)) || eqb k 32 || eqb k 42) is_pad refl
+pad_tested = same-below 256 (λ k. is_ascii_whitespace k || eqb k 42) is_pad refl
 
-pub white_compared : (b : ℕ) → b < 256 → ((leb 9 b && leb b 13) || eqb b 32) ≡ is_white (b ∷ [])
+pub white_tested : (b : ℕ) → b < 256 → (is_ascii_whitespace b || eqb b 11) ≡ is_white (b ∷ [])
 unfolding is_white white_space utf8 any same_bytes
-white_compared = same-below 256 (λ k. (leb 9 k && leb k 13) || eqb k 32) (λ k. is_white (k ∷ [])) refl
+white_tested = same-below 256 (λ k. is_ascii_whitespace k || eqb k 11) (λ k. is_white (k ∷ [])) refl

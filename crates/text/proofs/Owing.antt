@@ -1,31 +1,22 @@
 -- What is owed before and after a byte, as the code keeps it.
+use Rattle.std.specs.Prelude as prelude
 use mathlib.Core.Path.{◌≡◌, refl, ap, ◌∙◌, sym}
 use mathlib.Core.Bool.{Bool, true, false, cond, ◌&&◌, false≢true}
 use mathlib.Core.Option.{Option, none, some}
 use mathlib.Core.List.{List, [], ◌∷◌}
-use Prim.Native.Nat.{ℕ, zero, suc, ◌+◌, ◌-◌, ◌<◌, ◌≤◌}
+use Prim.Native.Nat.{ℕ, zero, suc, ◌+◌, ◌-◌, ◌<◌}
 use native.Mathlib.Omega.{arith}
 use native.Mathlib.Numerals.{add-one}
-use lib.Dec.{eqb}
-use lib.ListN.{length, drop, get_or, drop_of_length-le}
-use lib.Seq.{drop-cons}
-use borrow.Author.Tests.{ne_eqb, eqb-true, le-leb, lt-leb}
+use lib.Dec.{eqb, ltb}
+use lib.ListN.{length, drop}
+use borrow.Author.Tests.{ne_eqb, eqb-true, le-leb, ltb-true}
+use Rattle.std.specs.List.{prefix_len}
 use Rattle.text.specs.Basic.{within}
 use Rattle.text.specs.Text.{Range, follows, lead_length, after_byte, nothing_owed, valid_from, valid}
 use Rattle.text.specs.Owed.{lowest_tail, highest_tail, tails, tails_from, owed_of}
-use Rattle.text.specs.declared.utf8.Owed.{Owed}
-use Rattle.text.specs.declared.utf8.Owed.TheVariants.{Wrong, Tails}
+use Rattle.text.specs.declared.utf8.Tails.{Tails}
 use Rattle.text.proofs.Below.{below}
 use Rattle.text.proofs.Lists.{and_true}
-
-pub wrong_owes : (o : Owed) → o ≡ Wrong → false ≡ nothing_owed (owed_of o)
-unfolding owed_of
-wrong_owes o e = rw e
-
-pub tails_owe : (o : Owed) (n lo hi : ℕ) → o ≡ Tails n lo hi → eqb n 0 ≡ nothing_owed (owed_of o)
-unfolding owed_of tails_from
-tails_owe o zero lo hi e = rw e
-tails_owe o (suc n) lo hi e = rw (e, ne_eqb (suc n) 0 (omega arith))
 
 -- two lists of ranges are equal
 same_ranges : List Range → List Range → Bool
@@ -69,96 +60,98 @@ unfolding led same_owed same_ranges lead_length follows lowest_tail highest_tail
 led_is b h = owed_same _ _ (below 256 (λ k. same_owed (led (lead_length k) (lowest_tail k) (highest_tail k)) (follows k)) refl b h)
 
 -- an ASCII byte is a character by itself
-pub led-ascii : (b : ℕ) → b < 0x80 → owed_of (Tails 0 0x80 0xbf) ≡ follows b
-unfolding owed_of tails_from follows
+pub led-ascii : (b : ℕ) → b < 0x80 → some [] ≡ follows b
+unfolding follows
 led-ascii b h = rw (le-leb 0 b (omega arith), le-leb b 0x7f (omega arith))
 
-pub led_wrong : (b n : ℕ) → b < 256 → n ≡ lead_length b → n ≡ 0 → owed_of Wrong ≡ follows b
+pub led_wrong : (b n : ℕ) → b < 256 → n ≡ lead_length b → n ≡ 0 → owed_of prelude.None ≡ follows b
 unfolding led owed_of
 led_wrong b n h e z = ap (λ (m : ℕ). led m (lowest_tail b) (highest_tail b)) (sym z ∙ e) ∙ led_is b h
 
-pub led-tails : (b n lo hi : ℕ) → b < 256 → n ≡ lead_length b → (n ≡ 0 → ⊥) → lo ≡ lowest_tail b → hi ≡ highest_tail b → owed_of (Tails (n - 1) lo hi) ≡ follows b
+pub led-tails : (b : ℕ) (t : Tails) → b < 256 → t.more + 1 ≡ lead_length b → t.low ≡ lowest_tail b → t.high ≡ highest_tail b → owed_of (prelude.Some t) ≡ follows b
 unfolding led owed_of
-led-tails b zero lo hi h e z l g = absurd (z refl)
-led-tails b (suc n) lo hi h e z l g =
-    let p : suc n - 1 ≡ n = omega arith in
-    rw (l, g, p) (ap (λ (m : ℕ). led m (lowest_tail b) (highest_tail b)) e ∙ led_is b h)
+led-tails b t h e l g = rw (l, g) (ap (λ (m : ℕ). led m (lowest_tail b) (highest_tail b)) (rw add-one at e) ∙ led_is b h)
 
--- a wrong text stays wrong
-pub after_wrong : (o : Owed) (b : ℕ) → o ≡ Wrong → owed_of o ≡ after_byte (owed_of o) b
-unfolding owed_of after_byte
-after_wrong o b e = rw e
-
--- where nothing is owed, a character begins
-pub after_none : (o r : Owed) (n lo hi b : ℕ) → o ≡ Tails n lo hi → n ≡ 0 → owed_of r ≡ follows b → owed_of r ≡ after_byte (owed_of o) b
+-- nothing is owed, and a character begins
+pub after_none : (t : Tails) (o : prelude.Option Tails) (b : ℕ) → t.more ≡ 0 → owed_of o ≡ follows b → owed_of o ≡ after_byte (owed_of (prelude.Some t)) b
 unfolding owed_of after_byte tails_from
-after_none o r n lo hi b e z f = rw (e, z) f
+after_none t o b z f = rw z f
 
 tails-after : (n : ℕ) → tails_from n 0x80 0xbf ≡ tails n
 unfolding tails_from tails
 tails-after zero = refl
 tails-after (suc n) = refl
 
-module _ (o : Owed) (n lo hi b : ℕ) (e : o ≡ Tails n lo hi) (z : n ≡ 0 → ⊥) where
-  after-go : (m : ℕ) → n ≡ m → (m ≡ 0 → ⊥) → after_byte (owed_of o) b ≡ cond (within lo hi b) (owed_of (Tails (n - 1) 0x80 0xbf)) none
-  unfolding owed_of after_byte tails_from
-  after-go zero q z = absurd (z refl)
-  after-go (suc m) q z =
-      let p : suc m - 1 ≡ m = omega arith in
-      rw (e, q, p, tails-after m)
+-- something is owed, and the byte is a tail of the wanted range or not
+after_more : (n lo hi b : ℕ) → (n ≡ 0 → ⊥) → after_byte (some (tails_from n lo hi)) b ≡ cond (within lo hi b) (some (tails_from (n - 1) 0x80 0xbf)) none
+unfolding after_byte tails_from
+after_more zero lo hi b z = absurd (z refl)
+after_more (suc n) lo hi b z =
+    let p : suc n - 1 ≡ n = omega arith in
+    rw (p, tails-after n)
 
-  pub after-low : b < lo → owed_of Wrong ≡ after_byte (owed_of o) b
-  unfolding owed_of
-  after-low l = rw (after-go n refl z, lt-leb lo b l)
+pub after_tail : (t r : Tails) (b : ℕ) → (t.more ≡ 0 → ⊥) → within t.low t.high b ≡ true → r ≡ record { more = t.more - 1; low = 0x80; high = 0xbf } → owed_of (prelude.Some r) ≡ after_byte (owed_of (prelude.Some t)) b
+unfolding owed_of
+after_tail t r b z w e = rw (after_more t.more t.low t.high b z, w, e)
 
-  pub after-high : lo ≤ b → hi < b → owed_of Wrong ≡ after_byte (owed_of o) b
-  unfolding owed_of
-  after-high l g = rw (after-go n refl z, le-leb lo b l, lt-leb b hi g)
-
-  pub after_tail : lo ≤ b → b ≤ hi → owed_of (Tails (n - 1) 0x80 0xbf) ≡ after_byte (owed_of o) b
-  after_tail l g = rw (after-go n refl z, le-leb lo b l, le-leb b hi g)
+pub after_wrong : (t : Tails) (b : ℕ) → (t.more ≡ 0 → ⊥) → within t.low t.high b ≡ false → owed_of prelude.None ≡ after_byte (owed_of (prelude.Some t)) b
+unfolding owed_of
+after_wrong t b z w = rw (after_more t.more t.low t.high b z, w)
 
 -- ASCII
 
--- The bytes from `at` up to i are ASCII: the text from i on is as valid as from `at` on.
-pub record Passing (s : List ℕ) (at i : ℕ) : Type 0 where
-  pub from : at ≤ i
-  pub upto : i ≤ length s
-  pub same : valid (drop i s) ≡ valid (drop at s)
+abbrev pub is_ascii : ℕ → Bool
+is_ascii b = ltb b 0x80
 
-pub passing-none : (s : List ℕ) (at i : ℕ) → at ≤ length s → i ≡ at → Passing s at i
-passing-none s at i h e = record { from = omega arith; upto = omega arith; same = rw e }
+-- what stands behind the ASCII bytes at the start is as valid as the whole
+pub behind-ascii : (s : List ℕ) → valid (drop (prefix_len is_ascii s) s) ≡ valid s
+unfolding valid_from after_byte
+behind-ascii [] = refl
+behind-ascii (b ∷ s) = go (ltb b 0x80) refl (behind-ascii s)
+  where
+    go : (t : Bool) → ltb b 0x80 ≡ t → valid (drop (prefix_len is_ascii s) s) ≡ valid s → valid (drop (cond t (1 + prefix_len is_ascii s) 0) (b ∷ s)) ≡ valid (b ∷ s)
+    go true e h =
+        let n : 1 + prefix_len is_ascii s ≡ suc (prefix_len is_ascii s) = omega arith in
+        rw (n, ← (led-ascii b (ltb-true b 0x80 e))) h
+    go false e h = refl
 
-pub passing-more : {s : List ℕ} {at i : ℕ} → Passing s at i → i < length s → get_or s i 0 < 0x80 → Passing s at (i + 1)
-unfolding valid_from after_byte owed_of tails_from
-passing-more {s} {at} {i} p h a =
-    let f = ap (λ (o : Option (List Range)). valid_from o (drop (suc i) s)) (led-ascii (get_or s i 0) a) in
-    record { from = omega (arith, p); upto = omega arith; same = rw (add-one i) (f ∙ (rw (drop-cons s i 0 h) at p.same)) }
+-- THE WALK
 
 -- The text is as valid as its rest is after what is owed.
-pub record Validating (s : List ℕ) (o : Owed) (i : ℕ) : Type 0 where
-  pub within-s : i ≤ length s
-  pub rest : valid_from (owed_of o) (drop i s) ≡ valid s
+pub record Validating (s : List ℕ) (t : Tails) (rest : List ℕ) : Type 0 where
+  pub same : valid_from (owed_of (prelude.Some t)) rest ≡ valid s
 
-pub validating_none : (s : List ℕ) (o : Owed) (i : ℕ) → o ≡ Tails 0 0x80 0xbf → i ≤ length s → valid (drop i s) ≡ valid (drop 0 s) → Validating s o i
+-- nothing is owed
+pub settled : (t : Tails) → t.more ≡ 0 → owed_of (prelude.Some t) ≡ some []
 unfolding owed_of tails_from
-validating_none s o i e h p = record { within-s = h; rest = rw e p }
+settled t z = rw z
 
-pub validating_more : {s : List ℕ} {o r : Owed} {i : ℕ} → Validating s o i → i < length s → owed_of r ≡ after_byte (owed_of o) (get_or s i 0) → Validating s r (i + 1)
-unfolding valid_from
-validating_more {s} {o} {r} {i} v h e = record { within-s = omega arith; rest = rw (e, add-one i) (rw (drop-cons s i 0 h) at v.rest) }
+pub validating_none : {s rest : List ℕ} (t : Tails) → t.more ≡ 0 → valid rest ≡ valid s → Validating s t rest
+validating_none t z h = record { same = rw (settled t z) h }
 
-settled : (o : Option (List Range)) → nothing_owed o ≡ true → o ≡ some []
-settled none h = absurd (false≢true h)
-settled (some []) h = refl
-settled (some (r ∷ rs)) h = absurd (false≢true h)
+wrong-stays : (s : List ℕ) → valid_from none s ≡ false
+unfolding valid_from after_byte
+wrong-stays [] = refl
+wrong-stays (b ∷ s) = wrong-stays s
 
--- between characters ASCII is passed
-pub validating_on : {s : List ℕ} {o : Owed} {i : ℕ} (t : Bool) (j : ℕ) → Validating s o i → t ≡ nothing_owed (owed_of o) → t ≡ true → j ≤ length s → valid (drop j s) ≡ valid (drop i s) → Validating s o j
-validating_on {s} {o} {i} t j v e y h p =
-    let k : owed_of o ≡ some [] = settled (owed_of o) (sym e ∙ y) in
-    record { within-s = h; rest = rw k (p ∙ (rw k at v.rest)) }
+module _ {s rest behind : List ℕ} {t : Tails} {b : ℕ} (v : Validating s t rest) (e : rest ≡ b ∷ behind) (o : prelude.Option Tails) (k : owed_of o ≡ after_byte (owed_of (prelude.Some t)) b) where
+  pub validating_wrong : o ≡ prelude.None → false ≡ valid s
+  unfolding valid_from owed_of
+  validating_wrong n = rw (e, ← k, n, wrong-stays behind) at v.same
 
-pub validating_all : {s : List ℕ} {o : Owed} {i : ℕ} (t : Bool) → Validating s o i → length s ≤ i → t ≡ nothing_owed (owed_of o) → t ≡ valid s
-unfolding valid_from
-validating_all {s} {o} {i} t v h e = e ∙ (rw (drop_of_length-le s h) at v.rest)
+  pub validating_more : (r : Tails) → o ≡ prelude.Some r → Validating s r behind
+  unfolding valid_from
+  validating_more r n = record { same = rw (e, ← k, n) at v.same }
+
+pub validating_on : {s rest behind : List ℕ} {t : Tails} → Validating s t rest → t.more ≡ 0 → valid behind ≡ valid rest → Validating s t behind
+validating_on {t = t} v z h = record { same = rw (settled t z) (h ∙ (rw (settled t z) at v.same)) }
+
+nothing-more : (n lo hi : ℕ) → eqb n 0 ≡ nothing_owed (some (tails_from n lo hi))
+unfolding tails_from
+nothing-more zero lo hi = refl
+nothing-more (suc n) lo hi = ne_eqb (suc n) 0 (omega arith)
+
+pub validating_all : {s rest : List ℕ} {t : Tails} → Validating s t rest → length rest ≡ 0 → eqb t.more 0 ≡ valid s
+unfolding valid_from owed_of
+validating_all {rest = []} {t} v h = nothing-more t.more t.low t.high ∙ v.same
+validating_all {rest = b ∷ rest} v h = absurd (omega arith)

@@ -6,6 +6,7 @@ use Prim.Native.Nat.{ℕ, ◌≤◌}
 use native.Mathlib.Omega.{arith}
 use lib.Dec.{eqb}
 use lib.ListN.{length, take}
+use lib.Seq.{length-take-le}
 use Rattle.text.specs.Text.{is_pad, padding}
 
 -- the padding is the first text's beginning
@@ -28,3 +29,9 @@ padding-upto (x ∷ a) (y ∷ b) = go (eqb x y && is_pad x) (padding-upto a b)
     go : (t : Bool) → length (padding a b) ≤ length a → length (cond t (x ∷ padding a b) []) ≤ length (x ∷ a)
     go true h = omega arith
     go false h = omega arith
+
+pub common-count : {n : ℕ} (a b : List ℕ) → n ≡ length (padding a b) → n ≡ length (take n a)
+common-count a b e = rw (e, length-take-le (length (padding a b)) a (padding-upto a b))
+
+pub common-part : {n : ℕ} (a b : List ℕ) → n ≡ length (padding a b) → take n a ≡ padding a b
+common-part a b e = rw (e, padding-part a b)

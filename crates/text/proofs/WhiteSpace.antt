@@ -5,7 +5,7 @@ use mathlib.Core.List.{List, [], ◌∷◌}
 use Prim.Native.Nat.{ℕ, ◌+◌, ◌*◌, ◌-◌, ◌<◌, ◌≤◌}
 use native.Mathlib.Omega.{arith}
 use lib.Dec.{eqb, leb}
-use lib.ListN.{length, get_or}
+use lib.ListN.{length}
 use borrow.Author.Tests.{eqb-true, leb-true}
 use Rattle.text.specs.Basic.{any, all, same_bytes}
 use Rattle.text.specs.Text.{is_white, white_space, utf8}
@@ -95,26 +95,7 @@ triple_white a b c h i j =
     (at 0xe3 0x80 0x80 (omega arith) refl))
     (white_tested (a ∷ b ∷ c ∷ []))
 
--- WHITE SPACE OF A SLICE, BY ITS LENGTH
-
-pub white_one : (g : List ℕ) (t : Bool) → length g ≡ 1 → t ≡ is_white (get_or g 0 0 ∷ []) → t ≡ is_white g
-white_one (a ∷ []) t n e = e
-white_one [] t n e = absurd (omega arith)
-white_one (a ∷ b ∷ g) t n e = absurd (omega arith)
-
-pub white_two : (g : List ℕ) (t : Bool) → length g ≡ 2 → t ≡ is_white (get_or g 0 0 ∷ get_or g 1 0 ∷ []) → t ≡ is_white g
-white_two (a ∷ b ∷ []) t n e = e
-white_two [] t n e = absurd (omega arith)
-white_two (a ∷ []) t n e = absurd (omega arith)
-white_two (a ∷ b ∷ c ∷ g) t n e = absurd (omega arith)
-
-pub white_three : (g : List ℕ) (t : Bool) → length g ≡ 3 → t ≡ is_white (get_or g 0 0 ∷ get_or g 1 0 ∷ get_or g 2 0 ∷ []) → t ≡ is_white g
-white_three (a ∷ b ∷ c ∷ []) t n e = e
-white_three [] t n e = absurd (omega arith)
-white_three (a ∷ []) t n e = absurd (omega arith)
-white_three (a ∷ b ∷ []) t n e = absurd (omega arith)
-white_three (a ∷ b ∷ c ∷ d ∷ g) t n e = absurd (omega arith)
-
+-- no character of another length is white space
 pub white_other : (g : List ℕ) → (length g ≡ 1 → ⊥) → (length g ≡ 2 → ⊥) → (length g ≡ 3 → ⊥) → false ≡ is_white g
 unfolding white_test
 white_other [] x y z = same_test false (is_white []) (λ e. absurd (false≢true e)) (white_tested [])

@@ -1,9 +1,9 @@
 -- What the reader of UTF-8 keeps between two bytes, in the terms of RFC 3629's syntax.
+use Rattle.std.specs.Prelude as prelude
 use Rattle.std.specs.Prelude.{cond, List, [], ◌∷◌, ℕ, zero, suc, eqb}
 use Rattle.std.proofs.Math.Option.{Option, none, some}
 use Rattle.text.specs.Text.{Range, tail, from}
-use Rattle.text.specs.declared.utf8.Owed.{Owed}
-use Rattle.text.specs.declared.utf8.Owed.TheVariants.{Wrong, Tails}
+use Rattle.text.specs.declared.utf8.Tails.{Tails}
 
 -- UTF8-3 and UTF8-4 of RFC 3629: the first tail behind e0 and f0 begins higher than others
 unfoldable pub lowest_tail : ℕ → ℕ
@@ -24,6 +24,6 @@ tails_from zero lo hi = []
 tails_from (suc n) lo hi = from lo hi ∷ tails n
 
 -- what is owed
-unfoldable pub owed_of : Owed → Option (List Range)
-owed_of Wrong = none
-owed_of (Tails n lo hi) = some (tails_from n lo hi)
+unfoldable pub owed_of : prelude.Option Tails → Option (List Range)
+owed_of prelude.None = none
+owed_of (prelude.Some t) = some (tails_from t.more t.low t.high)

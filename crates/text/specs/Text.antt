@@ -93,6 +93,10 @@ is_white g = any (λ c. same_bytes (utf8 c) g) white_space
 unfoldable pub trim_end : List ℕ → List ℕ
 trim_end s = flatten (drop_end is_white (chars s))
 
+-- str::trim_start: without the white space at the start
+unfoldable pub trim_start : List ℕ → List ℕ
+trim_start s = flatten (drop_while is_white (chars s))
+
 -- str::trim: without the white space at both ends
 unfoldable pub trim : List ℕ → List ℕ
 trim s = flatten (drop_while is_white (drop_end is_white (chars s)))

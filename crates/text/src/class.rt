@@ -29,26 +29,20 @@ pub fn lead_length(b: u8) -> u8
     class_of(b) % 8
 }
 
-// The characters of ASCII from tab to carriage return are white space.
-const TAB: u8 = 9;
-
 const VERTICAL_TAB: u8 = 11;
-
-const CARRIAGE_RETURN: u8 = 13;
-
-const SPACE: u8 = 32;
 
 const STAR: u8 = 42;
 
+// The library's white space of ASCII has no vertical tab.
 pub fn is_padding(b: u8) -> bool
     ensures { result ≡ is_pad b }
 {
-    ((TAB <= b) & (b <= CARRIAGE_RETURN) & (b != VERTICAL_TAB)) | (b == SPACE) | (b == STAR)
+    b.is_ascii_whitespace() | (b == STAR)
 }
 
 // White space of one byte.
 pub fn is_white_byte(b: u8) -> bool
     ensures { result ≡ is_white (b ∷ []) }
 {
-    ((TAB <= b) & (b <= CARRIAGE_RETURN)) | (b == SPACE)
+    b.is_ascii_whitespace() | (b == VERTICAL_TAB)
 }

@@ -8,6 +8,6 @@ mod utf8;
 mod white;
 
 pub use lines::{line_end, line_feeds};
-pub use prefix::{common_ws_prefix, ends_with, starts_with};
+pub use prefix::{behind, common_ws_prefix, ends_with, front, starts_with};
 pub use utf8::is_utf8;
 pub use white::{trim, trim_end};

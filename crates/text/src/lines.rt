@@ -9,27 +9,21 @@ const LINE_FEED: u8 = 10;
 pub fn line_end(s: &[u8], at: usize) -> usize
     ensures { result ≡ line_end s.now at }
 {
-    let mut i = at;
-    while i < s.len() {
-        if s[i] == LINE_FEED {
-            return i;
-        }
-        i += 1;
-    }
-    i
+    let Some(rest) = s.get(at..) else {
+        return at;
+    };
+    at + rest.iter().take_while(|b| **b != LINE_FEED).count()
 }
 
-// The number of line feeds.
+// The number of line feeds. `filter(..).count()` takes twice the instructions of this loop.
 pub fn line_feeds(s: &[u8]) -> usize
     ensures { result ≡ count 10 s.now }
 {
     let mut n = 0;
-    let mut i = 0;
-    while i < s.len() {
-        if s[i] == LINE_FEED {
+    for b in s {
+        if *b == LINE_FEED {
             n += 1;
         }
-        i += 1;
     }
     n
 }

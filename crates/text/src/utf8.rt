@@ -1,6 +1,6 @@
 // Valid UTF-8, RFC 3629.
-ghost use Rattle.std.specs.Prelude.{◌≡◌, ◌≤◌, length, drop};
-ghost use Rattle.text.specs.Text.{follows, after_byte, nothing_owed, valid};
+ghost use Rattle.std.specs.Prelude.{◌≡◌, ◌≤◌, length};
+ghost use Rattle.text.specs.Text.{follows, after_byte, valid};
 ghost use Rattle.text.specs.Owed.{lowest_tail, highest_tail, owed_of};
 
 use crate::class::lead_length;
@@ -8,18 +8,29 @@ use crate::class::lead_length;
 // The range of a tail byte.
 pub const TAIL_LOW: u8 = 0x80;
 
-const TAIL_HIGH: u8 = 0xbf;
+pub const TAIL_HIGH: u8 = 0xbf;
 
-// What a text owes before it may end.
+// What a text owes before it may end: this many tail bytes, the next of them from `low` to `high`.
 #[derive(Clone, Copy)]
-pub enum Owed {
-    // The text is wrong, however it goes on.
-    Wrong,
-    // This many tail bytes, the next of them from `low` to `high`.
-    Tails { more: u8, low: u8, high: u8 },
+pub struct Tails {
+    more: u8,
+    low: u8,
+    high: u8,
+}
+
+// Tail bytes that may be any.
+fn any_tails(more: u8) -> Tails
+    ensures { result ≡ record { more = more; low = 0x80; high = 0xbf } }
+{
+    Tails {
+        more,
+        low: TAIL_LOW,
+        high: TAIL_HIGH,
+    }
 }
 
 // The lowest byte that may follow a lead byte: no overlong forms.
+#[tactic(auto, unfolding(crate::specs::Owed::lowest_tail))]
 fn lowest_tail(lead: u8) -> u8
     ensures { result ≡ lowest_tail lead }
 {
@@ -31,6 +42,7 @@ fn lowest_tail(lead: u8) -> u8
 }
 
 // The highest byte that may follow a lead byte: no surrogates, nothing above U+10FFFF.
+#[tactic(auto, unfolding(crate::specs::Owed::highest_tail))]
 fn highest_tail(lead: u8) -> u8
     ensures { result ≡ highest_tail lead }
 {
@@ -41,96 +53,57 @@ fn highest_tail(lead: u8) -> u8
     }
 }
 
-// What a lead byte owes. Most bytes are ASCII: they owe nothing, and the table is not asked.
-fn after_lead(b: u8) -> Owed
+// What a lead byte owes, if it is one. Most bytes are ASCII: they owe nothing, and the table is not asked.
+fn after_lead(b: u8) -> Option<Tails>
     ensures { owed_of result ≡ follows b }
 {
     if b < TAIL_LOW {
-        return Owed::Tails {
-            more: 0,
-            low: TAIL_LOW,
-            high: TAIL_HIGH,
-        };
+        return Some(any_tails(0));
     }
-    let n = lead_length(b);
-    if n == 0 {
-        return Owed::Wrong;
-    }
-    Owed::Tails {
-        more: n - 1,
+    Some(Tails {
+        more: lead_length(b).checked_sub(1)?,
         low: lowest_tail(b),
         high: highest_tail(b),
-    }
+    })
 }
 
-fn after_byte(o: Owed, b: u8) -> Owed
-    ensures { owed_of result ≡ after_byte (owed_of o) b }
+// What is owed after one byte more; none once the text is wrong, however it goes on.
+fn after_byte(t: Tails, b: u8) -> Option<Tails>
+    ensures { owed_of result ≡ after_byte (owed_of (Some t)) b }
 {
-    let Owed::Tails { more, low, high } = o else {
-        return o;
-    };
-    if more == 0 {
+    if t.more == 0 {
         return after_lead(b);
     }
-    if b < low {
-        return Owed::Wrong;
+    if !(t.low..=t.high).contains(&b) {
+        return None;
     }
-    if high < b {
-        return Owed::Wrong;
-    }
-    Owed::Tails {
-        more: more - 1,
-        low: TAIL_LOW,
-        high: TAIL_HIGH,
-    }
+    Some(any_tails(t.more - 1))
 }
 
-fn owes_nothing(o: Owed) -> bool
-    ensures { result ≡ nothing_owed (owed_of o) }
+// What stands behind the ASCII bytes at the start, each a character by itself.
+fn behind_ascii(s: &[u8]) -> &[u8]
+    ensures part { length result.now ≤ length s.now }
+    ensures same { valid result.now ≡ valid s.now }
 {
-    match o {
-        Owed::Wrong => false,
-        Owed::Tails {
-            more,
-            low: _,
-            high: _,
-        } => more == 0,
-    }
-}
-
-// Where the ASCII bytes from `at` on end, each a character by itself.
-fn ascii_end(s: &[u8], at: usize) -> usize
-    requires { at ≤ length s.now }
-    ensures from { at ≤ result }
-    ensures upto { result ≤ length s.now }
-    ensures same { valid (drop result s.now) ≡ valid (drop at s.now) }
-{
-    let mut i = at;
-    while i < s.len() {
-        if TAIL_LOW <= s[i] {
-            return i;
-        }
-        i += 1;
-    }
-    i
+    &s[s.iter().take_while(|b| **b < TAIL_LOW).count()..]
 }
 
 // The text is valid UTF-8. Between characters ASCII is passed at once.
 pub fn is_utf8(s: &[u8]) -> bool
     ensures { result ≡ valid s.now }
 {
-    let mut o = Owed::Tails {
-        more: 0,
-        low: TAIL_LOW,
-        high: TAIL_HIGH,
-    };
-    let mut i = ascii_end(s, 0);
-    while i < s.len() {
-        o = after_byte(o, s[i]);
-        i += 1;
-        if owes_nothing(o) {
-            i = ascii_end(s, i);
-        }
+    let mut owed = any_tails(0);
+    let mut rest = behind_ascii(s);
+    while let Some((b, behind)) = rest.split_first() {
+        let Some(next) = after_byte(owed, *b) else {
+            return false;
+        };
+        owed = next;
+        rest = if owed.more == 0 {
+            behind_ascii(behind)
+        } else {
+            behind
+        };
     }
-    owes_nothing(o)
+    owed.more == 0
 }

@@ -1,39 +1,23 @@
 -- Texts of ASCII only.
 use mathlib.Core.Path.{◌≡◌, refl}
-use mathlib.Core.Bool.{true}
+use mathlib.Core.Bool.{Bool, true, false, false≢true}
+use Rattle.std.specs.Bool.{MatchBool}
+use Rattle.std.specs.Str.{IsAscii, IsNotAscii}
 use mathlib.Core.List.{List, [], ◌∷◌}
-use Prim.Native.Nat.{ℕ, suc, max, ◌+◌, ◌-◌, ◌<◌, ◌≤◌}
+use Prim.Native.Nat.{ℕ, suc, ◌+◌, ◌-◌, ◌<◌, ◌≤◌}
 use native.Mathlib.Omega.{arith}
-use native.Mathlib.Decide.{dec_lt, ℕ_discrete}
-use lib.Dec.{ltb}
+use native.Mathlib.Decide.{dec_lt}
 use lib.ListN.{length, get_or, take, drop, length-take, get_or-eq_default}
 use lib.Seq.{get_or-take, get_or-drop, drop-drop}
-use borrow.Author.Tests.{le-leb, ltb-true}
+use borrow.Author.Tests.{le-leb}
 use Rattle.text.specs.Text.{valid_from, after_byte, follows, valid}
 use Rattle.tree.specs.Clean.{Ascii}
 use Rattle.tree.proofs.Parts.{rest-whole}
 
--- No byte before i is above top.
-pub record Topping (s : List ℕ) (top i : ℕ) : Type 0 where
-  pub upto : i ≤ length s
-  pub over : (k : ℕ) → k < i → get_or s k 0 ≤ top
-
-pub topping_none : (s : List ℕ) → Topping s 0 0
-topping_none s = record { upto = omega arith; over = λ k h. absurd (omega arith) }
-
-pub topping_more : {s : List ℕ} {top i : ℕ} (t : ℕ) → Topping s top i → i < length s → t ≡ max top (get_or s i 0) → Topping s t (i + 1)
-topping_more {s} {top} {i} t r h p = record { upto = omega arith; over = λ k g. go k g (ℕ_discrete k i) }
-  where
-    go : (k : ℕ) → k < i + 1 → Dec (k ≡ i) → get_or s k 0 ≤ t
-    go k g (yes e) = rw e (omega (arith, p))
-    go k g (no e) = omega (arith, p, r.over k (omega arith))
-
-pub topping_all : {s : List ℕ} {top i : ℕ} → Topping s top i → length s ≤ i → ltb top 128 ≡ true → Ascii s
-topping_all {s} {top} {i} r h e = record { below = λ k. go k (dec_lt k (length s)) }
-  where
-    go : (k : ℕ) → Dec (k < length s) → get_or s k 0 < 128
-    go k (yes p) = omega (arith, r.over k (omega arith), ltb-true top 128 e)
-    go k (no p) = rw (get_or-eq_default s 0 {n = k} (omega arith)) (omega arith)
+-- what `is_ascii` ensures
+pub ascii-told : (s : List ℕ) {b : Bool} → MatchBool b (IsAscii s) (IsNotAscii s) → b ≡ true → Ascii s
+ascii-told s {b = true} h e = record { below = h }
+ascii-told s {b = false} h e = absurd (false≢true e)
 
 -- a text of ASCII is valid UTF-8
 pub ascii-valid : (s : List ℕ) → Ascii s → valid s ≡ true

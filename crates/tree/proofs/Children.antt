@@ -14,14 +14,15 @@ use Rattle.tree.specs.Tree.{count_n, texts_of, elements_of, Part, nil, tree, for
 use Rattle.tree.specs.Image.{kind_in, level_in, size_in, start_in, place_in, text_in, element_in}
 use Rattle.tree.specs.Refusal.{misplaced_after, first_misplaced}
 use Rattle.tree.proofs.FirstWhere.{misplaced_from, misplaced_search, still-none, split-none}
-use Rattle.tree.proofs.Accepted.{Accepted, accepted, Passing, passing}
+use Rattle.tree.proofs.Passing.{Accepted, accepted, passing}
 use Rattle.tree.proofs.Ends.{deeper_from, deeper-here, deeper-not, deeper-over, end-past, end-in, end-deep, end-up, end-under}
 use Rattle.tree.specs.Index.{kind_at, end_at, start_at, Indexed, Table, Region, text_at, part_at, walk, parts_from, end_in, Indexable, Child}
 use Rattle.tree.proofs.Walk.{forest-none, forest-end, forest-here, forest-skip, Placed, well_placed, joined, texts-under}
 use Rattle.text.proofs.Lists.{and_true}
 use Rattle.tree.specs.Answer.{said, answer}
-use Rattle.tree.specs.declared.Tested.{Tested}
-use Rattle.tree.specs.declared.Tested.TheVariants.{Accepted as Passed}
+use Rattle.std.specs.Prelude.{Result, Ok}
+use Rattle.numbers.specs.declared.refusal.Refusal.{Refusal}
+use Rattle.tree.specs.declared.Accepted as code
 use Rattle.tree.proofs.Elements.{elements-cons, elements-none, start-next}
 
 -- ---- texts are parts of the text section
@@ -256,6 +257,7 @@ module _ {image index : List ℕ} (x : Indexed image index) where
         forward = λ i j h k. rw (start-at i (omega arith), start-at j k) (omega (arith, start_le image i j h));
         few = indexed-accepted.few-elements;
         whole = omega (arith, start-at (count_n image) (omega arith), indexed-accepted.sizes, indexed-accepted.long);
+        short = omega (arith, indexed-accepted.few-elements, indexed-accepted.few_bytes, indexed-accepted.sizes, indexed-accepted.long);
       }
 
   -- the children of element i, from j on, may be walked
@@ -269,7 +271,7 @@ module _ {image index : List ℕ} (x : Indexed image index) where
   region-of i h q r = rw (q, r) (region-under i (i + 1) (child-first indexed-accepted i h))
 
 -- what a caller knows of an image that the tests let pass
-pub indexable : {image table : List ℕ} {r : Tested} {n b : ℕ} → said r ≡ answer image → r ≡ Passed n b → n * 3 + 3 ≤ length table → Indexable image table
-indexable {image} {table} {r} {n} {b} e h k =
-    let p : Passing image n b = passing image n b (rw h at e) in
+pub indexable : {image table : List ℕ} {r : Result code.Accepted Refusal} {a : code.Accepted} → said r ≡ answer image → r ≡ Ok a → a.elements * 3 + 3 ≤ length table → Indexable image table
+indexable {image} {table} {r} {a} e h k =
+    let p = passing image a.elements a.bytes (rw h at e) in
     record { passed = p.unrefused; room = omega (arith, p.elements) }

@@ -17,7 +17,7 @@ use Rattle.tree.specs.Image.{kind_in, level_in, size_in, start_in, place_in, tex
 use Rattle.tree.specs.Refusal.{unknown_kind, misplaced, first_misplaced, node_with_text, wrong_sizes, not_utf8, string_block, misformed, nameless_in, wrong_length, out_of_limits, tests, first_refusal, refusal}
 use Rattle.tree.specs.Clean.{Sound, part}
 use Rattle.tree.specs.declared.bytes.Header.{Header}
-use Rattle.tree.proofs.Accepted.{Measured, measured}
+use Rattle.tree.proofs.Passing.{Measured, measured}
 use Rattle.tree.proofs.Comments.{or_none_lem}
 use Rattle.tree.proofs.Elements.{start-next, sizes-all}
 use Rattle.tree.proofs.FirstWhere.{where_search, nameless_search, misplaced_search, all-fail}

@@ -8,8 +8,8 @@ use lib.ListN.{length, get_or, set, drop, length-set}
 use lib.Seq.{get_or-set_same, get_or-set_other, drop-set-lt}
 use Rattle.tree.specs.Tree.{count_n}
 use Rattle.tree.specs.Image.{kind_in, size_in, place_in}
-use Rattle.tree.proofs.Accepted.{Accepted, accepted}
-use Rattle.tree.specs.Index.{kind_at, end_at, start_at, Entry, index_size, IndexedFrom, Indexable, Filled, end_in}
+use Rattle.tree.proofs.Passing.{Accepted, accepted}
+use Rattle.tree.specs.Index.{kind_at, end_at, start_at, Entry, index_size, IndexedFrom, Indexable, end_in}
 use Rattle.tree.proofs.Elements.{start-next}
 
 -- a table after one, two and three numbers of an entry were written
@@ -88,9 +88,6 @@ module _ {image before table : List ℕ} {start i : ℕ} (f : Filling image befo
   pub filling-start : start ≡ place_in image (i - 1) + size_in image (i - 1)
   filling-start = omega (arith, f.here, rw step at (start-next image (i - 1)))
 
-  pub filling-behind : IndexedFrom image table (i - 1 + 1)
-  filling-behind = rw step f.done
-
   -- the table with the entry of the element in front
   abbrev next : List ℕ
   next = put table (i - 1) (kind_in image (i - 1)) (end_in image (i - 1)) (place_in image (i - 1))
@@ -122,13 +119,3 @@ module _ {image before table : List ℕ} {start i : ℕ} (f : Filling image befo
   filling-more {size} p q r e =
       let s : start - size ≡ place_in image (i - 1) = omega (arith, filling-start, p) in
       rw (e, q, r, s) next-filling
-
--- all entries
-pub filling_all : {image entry before after : List ℕ} {n start i : ℕ} (b : ℕ) → Indexable image entry → n ≡ count_n image → before ≡ put entry n 0 n b → Filling image before after start i → i ≤ 0 → Filled image entry after
-filling_all {image} {entry} {before} {after} {n} {start} {i} b p e q f h =
-    let z : i ≡ 0 = omega arith in
-    record {
-      indexed = record { passed = p.passed; entries = rw z at f.done };
-      kept = f.kept ∙ ap (drop (index_size image)) q ∙ put-drop entry n 0 n b (index_size image) (omega arith);
-      sized = f.sized ∙ ap length q ∙ put-length entry n 0 n b;
-    }

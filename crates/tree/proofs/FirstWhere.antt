@@ -5,10 +5,11 @@ use mathlib.Core.Option.{Option, none, some}
 use mathlib.Core.List.{List}
 use Prim.Native.Nat.{ℕ, zero, suc, ◌+◌, ◌-◌, ◌<◌, ◌≤◌}
 use native.Mathlib.Omega.{arith}
+use native.Mathlib.Nat.{sub-zero}
 use lib.ListN.{drop}
 use Rattle.tree.specs.Tree.{Element, count_n, elements_of}
 use Rattle.tree.specs.Image.{element_in}
-use Rattle.tree.specs.Refusal.{first_where, misplaced, misplaced_after, first_nameless, nameless_in}
+use Rattle.tree.specs.Refusal.{first_where, first_number, misplaced, misplaced_after, first_nameless, nameless_in}
 use Rattle.tree.proofs.Elements.{elements-cons, elements-none}
 
 -- A search: it gives the first element whose test T holds.
@@ -39,6 +40,28 @@ misplaced_search image =
       turn = λ i h. let e : i + 1 - 1 ≡ i = omega arith in rw (elements-cons image i h, e);
     }
 
+-- What is still to be found of n numbers, from i on, is what was to be found at the start.
+pub record Numbering (t : ℕ → Bool) (n i : ℕ) : Type 0 where
+  pub rest : first_number t i (n - i) ≡ first_number t 0 n
+
+pub numbering-none : (t : ℕ → Bool) (n : ℕ) → Numbering t n 0
+numbering-none t n = record { rest = rw sub-zero }
+
+module _ {t : ℕ → Bool} {n i : ℕ} (s : Numbering t n i) (h : i < n) {b : Bool} (e : b ≡ t i) where
+  turn : first_number t i (n - i) ≡ cond (t i) (some i) (first_number t (i + 1) (n - (i + 1)))
+  unfolding first_number
+  turn = let q : n - i ≡ suc (n - (i + 1)) = omega arith in rw q
+
+  pub numbering-more : b ≡ false → Numbering t n (i + 1)
+  numbering-more f = record { rest = rw (← e, f) at (sym turn ∙ s.rest) }
+
+  pub numbering-met : b ≡ true → some i ≡ first_number t 0 n
+  numbering-met f = rw (← e, f) at (sym turn ∙ s.rest)
+
+pub numbering-all : {t : ℕ → Bool} {n i : ℕ} → Numbering t n i → n ≤ i → none ≡ first_number t 0 n
+unfolding first_number
+numbering-all {t} {n} {i} s h = let q : n - i ≡ 0 = omega arith in rw q at s.rest
+
 -- ---- where nothing is found, no test holds
 
 pub split-none : (b : Bool) (i : ℕ) (o : Option ℕ) → cond b (some i) o ≡ none → (b ≡ false) × (o ≡ none)
@@ -46,6 +69,12 @@ split-none true i o h = let z : ◌≡◌ {A = ℕ} 0 1 = cc in absurd (omega ar
 split-none false i o h = (refl, h)
 
 module _ {image : List ℕ} {G : ℕ → Option ℕ} {T : ℕ → Bool} (w : Search image G T) where
+  -- the first of the d elements from i on, which are the last, whose test holds
+  pub numbered : (i d : ℕ) → i + d ≡ count_n image → first_number T i d ≡ G i
+  unfolding first_number
+  numbered i zero e = let q : i ≡ count_n image = omega arith in rw (q, w.over)
+  numbered i (suc d) e = rw (w.turn i (omega arith), numbered (i + 1) d (omega arith))
+
   -- the search behind an element finds nothing either
   pub still-none : (a d : ℕ) → a + d ≤ count_n image → G a ≡ none → G (a + d) ≡ none
   still-none a zero h g = let e : a + 0 ≡ a = omega arith in rw e g

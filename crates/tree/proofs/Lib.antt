@@ -1,8 +1,6 @@
 -- Laws that belong to no one function. Those of a `pub mod` are cited by other crates.
-pub mod Accepted
 mod Asciis
 pub mod Children
-mod Classes
 mod Cleaning
 mod CommentForms
 mod Comments
@@ -14,7 +12,9 @@ pub mod FirstWhere
 mod Lengths
 mod Looking
 mod Numbers
+pub mod Options
 mod Parts
+pub mod Passing
 mod Search
 pub mod Siblings
 mod Sums

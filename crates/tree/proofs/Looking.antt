@@ -12,7 +12,7 @@ use Rattle.text.proofs.Lists.{and_true}
 use Rattle.tree.specs.Tree.{Part}
 use Rattle.tree.specs.Class.{Kinds, one_of, is_plus, nth_of, last_of, plus_of, number_of}
 use Rattle.tree.specs.Index.{end_at, part_at, parts_from, Region}
-use Rattle.tree.proofs.Siblings.{region-part, region-past, region-next, parts-over}
+use Rattle.tree.proofs.Siblings.{region-part, region-next, parts-over}
 
 -- G is what the walk gives of the siblings that are left; v is what the whole walk gives.
 pub record Looking {A : Type 0} (index image : List ℕ) (b : ℕ) (G : List Part → A) (v : A) (j : ℕ) : Type 0 where
@@ -28,9 +28,6 @@ module _ {A : Type 0} {index image : List ℕ} {b : ℕ} {G : List Part → A} {
 
   pub looking-all : (x : A) → b ≤ j → G [] ≡ x → x ≡ v
   looking-all x h g = sym (ap G (parts-over index image j b h) ∙ g) ∙ s.rest
-
-  pub looking-less : {k : ℕ} → j < b → k ≡ end_at index j → b - k < b - j
-  looking-less h e = omega (arith, region-past s.region h)
 
 -- ---- what one part does to each walk
 
@@ -85,7 +82,3 @@ plus-over = refl
 pub last-over : (w : Kinds) (f : Option ℕ) → or_else (number_of (last_of w [])) f ≡ f
 unfolding last_of
 last-over w f = refl
-
-pub or_else_none : (o : Option ℕ) → or_else o none ≡ o
-or_else_none none = refl
-or_else_none (some n) = refl

@@ -1,9 +1,9 @@
 -- Walks over the elements of an image: what is still to be found is what was to be found at the start.
 use mathlib.Core.Path.{◌≡◌, refl, ap, ◌∙◌, sym}
-use mathlib.Core.Bool.{Bool, true, false, not, ◌&&◌}
+use mathlib.Core.Bool.{Bool, true, false, cond, not, ◌&&◌}
 use mathlib.Core.Option.{Option, none, some}
 use mathlib.Core.List.{List, ◌∷◌}
-use Prim.Native.Nat.{ℕ, suc, ◌+◌, ◌<◌, ◌≤◌}
+use Prim.Native.Nat.{ℕ, zero, suc, ◌+◌, ◌-◌, ◌<◌, ◌≤◌}
 use native.Mathlib.Omega.{arith}
 use native.Mathlib.Numerals.{add-one}
 use lib.Dec.{eqb}
@@ -11,8 +11,8 @@ use lib.ListN.{drop}
 use borrow.Author.Tests.{lt-ltb, le-ltb, not-true, not-false}
 use Rattle.tree.specs.Tree.{count_n, elements_of}
 use Rattle.tree.specs.Image.{kind_in, level_in, element_in}
-use Rattle.tree.specs.Refusal.{first_misplaced, no_ident}
-use Rattle.tree.proofs.FirstWhere.{Search, misplaced_from}
+use Rattle.tree.specs.Refusal.{first_misplaced, misplaced_in, no_ident}
+use Rattle.tree.proofs.FirstWhere.{Search, misplaced_from, misplaced_search}
 use Rattle.tree.proofs.Elements.{elements-cons, elements-none}
 
 -- G i is what the walk from element i on gives; v is what the whole walk gives.
@@ -30,16 +30,6 @@ pub walking-all_lem : {A : Type 0} {image : List ℕ} {G : ℕ → A} {v : A} {i
 walking-all_lem {A} {image} {G} {v} {i} {n} x s e h g =
     let q : count_n image ≡ i = omega (arith, s.upto) in
     sym g ∙ ap G q ∙ s.rest
-
-module _ {image : List ℕ} {G : ℕ → Option ℕ} {T : ℕ → Bool} (w : Search image G T) {v : Option ℕ} {i n : ℕ} (s : Walking image G v i) (e : n ≡ count_n image) where
-  pub search-more : {b : Bool} → i < n → b ≡ T i → b ≡ false → Walking image G v (i + 1)
-  search-more h p q = walking_on s e h (w.turn i (omega arith) ∙ rw (← p, q))
-
-  pub search-hit : {b : Bool} → i < n → b ≡ T i → b ≡ true → some i ≡ v
-  search-hit h p q = walking-met (some i) s (w.turn i (omega arith) ∙ rw (← p, q))
-
-  pub search-all : n ≤ i → none ≡ v
-  search-all h = walking-all_lem none s e h w.over
 
 module _ (image : List ℕ) (n : ℕ) (e : n ≡ count_n image) where
   pub misplaced-empty : n ≡ 0 → none ≡ first_misplaced (elements_of image)
@@ -62,6 +52,28 @@ module _ (image : List ℕ) (n : ℕ) (e : n ≡ count_n image) where
     misplaced-later h =
         let t : (eqb (kind_in image 0) 1 && eqb (level_in image 0) 0) ≡ true = not-false _ (sym p ∙ h) in
         sym (rw (begins, t))
+
+-- the first misplaced element, from i on
+abbrev pub placing_from : List ℕ → ℕ → Option ℕ
+placing_from image zero = first_misplaced (elements_of image)
+placing_from image (suc i) = misplaced_from image (suc i)
+
+placing_over : (image : List ℕ) (i : ℕ) → i ≡ count_n image → placing_from image i ≡ none
+placing_over image zero e = sym (misplaced-empty image 0 e refl)
+placing_over image (suc i) e = rw (e, (misplaced_search image).over)
+
+placing-turn : (image : List ℕ) (i : ℕ) → i < count_n image → placing_from image i ≡ cond (misplaced_in image i) (some i) (placing_from image (i + 1))
+placing-turn image zero h = go (not (eqb (kind_in image 0) 1 && eqb (level_in image 0) 0)) refl
+  where
+    go : (b : Bool) → b ≡ not (eqb (kind_in image 0) 1 && eqb (level_in image 0) 0) → first_misplaced (elements_of image) ≡ cond b (some 0) (misplaced_from image 1)
+    go true p = sym (misplaced-first image (count_n image) refl (λ z. omega arith) true p refl)
+    go false p = sym (misplaced-later image (count_n image) refl (λ z. omega arith) false p refl)
+placing-turn image (suc i) h =
+    let e : suc i - 1 ≡ i = omega arith in
+    rw (add-one (suc i), e) (rw (add-one (suc i), e) at ((misplaced_search image).turn (suc i) h))
+
+pub placing_search : (image : List ℕ) → Search image (placing_from image) (misplaced_in image)
+placing_search image = record { over = placing_over image (count_n image) refl; turn = placing-turn image }
 
 -- ---- the identifier of a Name
 

@@ -1,5 +1,6 @@
 -- The sum of the lengths of an image's elements.
-use mathlib.Core.Path.{◌≡◌, refl, ap, ◌∙◌}
+use mathlib.Core.Path.{◌≡◌, refl, sym, ap, ◌∙◌}
+use mathlib.Core.Bool.{true, false, false≢true}
 use mathlib.Core.Option.{none, some}
 use mathlib.Core.List.{List}
 use Prim.Native.Nat.{ℕ, ◌+◌, ◌*◌, ◌<◌, ◌≤◌}
@@ -12,8 +13,7 @@ use Rattle.tree.specs.Image.{size_in, start_in}
 use Rattle.tree.specs.Refusal.{first_where, node_with_text, wrong_sizes}
 use Rattle.tree.specs.Answer.{found}
 use Rattle.numbers.specs.declared.Element as number
-use Rattle.tree.specs.declared.Found.{Found}
-use Rattle.tree.specs.declared.Found.TheVariants.{At, Nothing}
+use Rattle.std.specs.Prelude.{Option, Some, None, is_some}
 use Rattle.tree.proofs.Elements.{sizes-all}
 
 -- The sum so far; each length is below 2 ^ 32.
@@ -37,16 +37,21 @@ summing_all {image} {total} {i} s e h =
 
 -- ---- test 5, from its two halves
 
-module _ (image : List ℕ) (f : Found) (e : found f ≡ first_where node_with_text (elements_of image)) where
-  pub sizes-node : (x : number.Element) → f ≡ At x → found f ≡ wrong_sizes image (elements_of image)
+pub sizes-node : (image : List ℕ) (f : Option number.Element) → found f ≡ first_where node_with_text (elements_of image) → is_some f ≡ true → found f ≡ wrong_sizes image (elements_of image)
+unfolding wrong_sizes
+sizes-node image (Some x) e h = rw (← e)
+sizes-node image None e h = absurd (false≢true h)
+
+-- no node is found
+unfound : (image : List ℕ) (f : Option number.Element) → found f ≡ first_where node_with_text (elements_of image) → is_some f ≡ false → first_where node_with_text (elements_of image) ≡ none
+unfound image (Some x) e h = absurd (false≢true (sym h))
+unfound image None e h = sym e
+
+module _ (image : List ℕ) (f : Option number.Element) (e : found f ≡ first_where node_with_text (elements_of image)) (h : is_some f ≡ false) {t b : ℕ} (p : t ≡ sum (λ (x : Element). x.size) (elements_of image)) (q : b ≡ count_b image) where
+  pub sizes-right : t ≡ b → none ≡ wrong_sizes image (elements_of image)
   unfolding wrong_sizes
-  sizes-node x h = rw (← e, h)
+  sizes-right r = rw (unfound image f e h, ← p, ← q, eq-eqb t b r)
 
-  module _ (h : f ≡ Nothing) (t b : ℕ) (p : t ≡ sum (λ (x : Element). x.size) (elements_of image)) (q : b ≡ count_b image) where
-    pub sizes-right : t ≡ b → none ≡ wrong_sizes image (elements_of image)
-    unfolding wrong_sizes
-    sizes-right r = rw (← e, h, ← p, ← q, eq-eqb t b r)
-
-    pub sizes-wrong : (n : ℕ) → n ≡ count_n image → (t ≡ b → ⊥) → some n ≡ wrong_sizes image (elements_of image)
-    unfolding wrong_sizes
-    sizes-wrong n i r = rw (← e, h, ← p, ← q, ne_eqb t b r, i)
+  pub sizes-wrong : {n : ℕ} → n ≡ count_n image → (t ≡ b → ⊥) → some n ≡ wrong_sizes image (elements_of image)
+  unfolding wrong_sizes
+  sizes-wrong i r = rw (unfound image f e h, ← p, ← q, ne_eqb t b r, i)

@@ -11,7 +11,7 @@ use borrow.Author.Tests.{lt-ltb, le-ltb, eq-eqb, ne_eqb, ltb-true, ltb-false, eq
 use Rattle.tree.specs.Tree.{Element, nil, tree, forest, texts}
 use Rattle.tree.specs.Refusal.{is_token, misplaced, misplaced_after}
 use Rattle.tree.proofs.FirstWhere.{split-none}
-use Rattle.tree.proofs.Accepted.{or_false}
+use Rattle.tree.proofs.Passing.{or_false}
 use Rattle.tree.specs.Index.{deeper}
 
 -- no element, no tree

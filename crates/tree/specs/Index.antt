@@ -1,5 +1,5 @@
 -- The index of a tree: for each element its kind, where its subtree ends and where in the image its text starts, and an entry more for the end.
-use Rattle.std.specs.Prelude.{◌≡◌, Bool, true, cond, not, ◌&&◌, List, [], ◌∷◌, ℕ, zero, suc, ◌+◌, ◌*◌, ◌-◌, ◌<◌, ◌≤◌, ltb, leb, length, get_or, take, drop}
+use Rattle.std.specs.Prelude.{◌≡◌, Bool, true, cond, not, ◌&&◌, List, [], ◌∷◌, ℕ, zero, suc, ◌+◌, ◌*◌, ◌-◌, ◌^◌, ◌<◌, ◌≤◌, ltb, leb, length, get_or, take, drop}
 use Rattle.std.proofs.Math.Option.{none}
 use Rattle.text.specs.Basic.{present}
 use Rattle.tree.specs.Tree.{Part, count_n, Element, elements_of}
@@ -85,7 +85,8 @@ walk (suc n) image index a b = cond (ltb a b) (part_at image index a ∷ walk n 
 unfoldable pub parts_from : List ℕ → List ℕ → ℕ → ℕ → List Part
 parts_from image index a b = walk (b - a) image index a b
 
--- The index has n elements, at most 4,096, and an entry for the end of the texts; ends lie behind their elements, and texts do not go back.
+-- The index has n elements, at most 4,096, and an entry for the end of the texts, a number of 32 bits; ends lie behind their elements, and
+-- texts do not go back.
 pub record Table (image index : List ℕ) (n : ℕ) : Type 0 where
   pub size : n * 3 + 3 ≤ length index
   pub few : n ≤ 4096
@@ -93,6 +94,7 @@ pub record Table (image index : List ℕ) (n : ℕ) : Type 0 where
   pub inside : (i : ℕ) → i < n → end_at index i ≤ n
   pub forward : (i j : ℕ) → i ≤ j → j ≤ n → start_at index i ≤ start_at index j
   pub whole : start_at index n ≡ length image
+  pub short : length image < 2 ^ 32
 
 -- A walk may go on at a, up to b.
 pub record Region (image index : List ℕ) (a b : ℕ) : Type 0 where

@@ -7,3 +7,4 @@ pub mod CommentForms
 pub mod Answer
 pub mod Image
 pub mod Index
+pub mod Source

@@ -1,12 +1,10 @@
 -- Document 01, 'When a tree is turned away': the tests 1 to 9, each over the whole image before the next.
-use Rattle.std.specs.Prelude.{Bool, true, false, cond, not, ◌&&◌, ◌||◌, List, [], ◌∷◌, ℕ, suc, ◌+◌, ◌*◌, leb, ltb, eqb, length, drop}
+use Rattle.std.specs.Prelude.{Bool, true, false, cond, not, ◌&&◌, ◌||◌, List, [], ◌∷◌, ℕ, zero, suc, ◌+◌, ◌*◌, leb, ltb, eqb, length, drop}
 use Rattle.std.proofs.Math.Option.{Option, none, some}
 use Rattle.text.specs.Basic.{ascii, within, sum, starts_with, or_else}
 use Rattle.text.specs.Text.{valid, ends_with}
 use Rattle.tree.specs.Tree.{Element, count_n, count_b, elements_of}
-use Rattle.tree.specs.Image.{kind_in, level_in}
-use Rattle.tree.specs.declared.refuse.Test.{Test}
-use Rattle.tree.specs.declared.refuse.Test.TheVariants.{UnknownKind, NodeWithText, NotUtf8, StringBlock, Misformed}
+use Rattle.tree.specs.Image.{kind_in, level_in, element_in}
 
 -- 1: 'The image is too short to read N or B, or its length is not 8 + 8N + B'
 unfoldable pub wrong_length : List ℕ → Bool
@@ -27,6 +25,11 @@ is_token e = leb 64 e.kind
 unfoldable pub first_where : (Element → Bool) → List Element → Option ℕ
 first_where f [] = none
 first_where f (e ∷ es) = cond (f e) (some e.number) (first_where f es)
+
+-- the first of n numbers, from i on, whose test holds
+unfoldable pub first_number : (ℕ → Bool) → ℕ → ℕ → Option ℕ
+first_number t i zero = none
+first_number t i (suc n) = cond (t i) (some i) (first_number t (i + 1) n)
 
 -- 3: 'A kind is not in the tables'
 unfoldable pub unknown_kind : Element → Bool
@@ -50,6 +53,11 @@ misplaced_after before (e ∷ es) = cond (misplaced before e) (some e.number) (m
 unfoldable pub first_misplaced : List Element → Option ℕ
 first_misplaced [] = none
 first_misplaced (e ∷ es) = cond (eqb e.kind 1 && eqb e.level 0) (misplaced_after e es) (some e.number)
+
+-- 4, of element i, read at its place
+abbrev pub misplaced_in : List ℕ → ℕ → Bool
+misplaced_in image zero = not (eqb (kind_in image 0) 1 && eqb (level_in image 0) 0)
+misplaced_in image (suc i) = misplaced (element_in image i) (element_in image (suc i))
 
 -- 5: 'A node has a length other than 0'
 unfoldable pub node_with_text : Element → Bool
@@ -135,11 +143,3 @@ first_refusal (t ∷ ts) = or_else t (first_refusal ts)
 -- why an image is turned away before it is printed
 unfoldable pub refusal : List ℕ → Option Refusal
 refusal image = first_refusal (tests image)
-
--- what a test of one element looks for
-abbrev pub test_of : Test → Element → Bool
-test_of UnknownKind = unknown_kind
-test_of NodeWithText = node_with_text
-test_of NotUtf8 = not_utf8
-test_of StringBlock = string_block
-test_of Misformed = misformed

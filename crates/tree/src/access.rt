@@ -4,11 +4,13 @@ ghost use Rattle.std.proofs.Math.Option.{some};
 ghost use Rattle.text.specs.Basic.{ascii, same_bytes};
 ghost use Rattle.tree.specs.Answer.{found};
 ghost use Rattle.tree.specs.Class.{is_plus, nth_of, last_of, plus_of, number_of};
+ghost use Rattle.tree.specs.Source.{Source};
 ghost use Rattle.tree.specs.Index.{kind_at, end_at, start_at, text_at, part_at, parts_from, Region};
 
+use super::bytes;
 use super::class::{Class, Kinds, is, kinds_of};
-use super::{Found, bytes};
 use numbers::Element;
+use std::marker::Model;
 
 // How many numbers an entry of the index has, and where its end and its start stand.
 pub const ENTRY: usize = 3;
@@ -21,143 +23,150 @@ pub const START: usize = 2;
 fn number_at(index: &[u32], i: usize) -> u32
     ensures { result ≡ get_or index.now i 0 }
 {
-    if i < index.len() { index[i] } else { 0 }
-}
-
-// The kind of element i.
-pub fn kind_at(index: &[u32], i: u32) -> u32
-    ensures { result ≡ kind_at index.now i }
-{
-    number_at(index, (i as usize) * ENTRY)
-}
-
-// Where the subtree of element i ends.
-pub fn end_at(index: &[u32], i: u32) -> u32
-    ensures { result ≡ end_at index.now i }
-{
-    number_at(index, (i as usize) * ENTRY + END)
-}
-
-// Where the text of element i starts.
-pub fn start_at(index: &[u32], i: u32) -> u32
-    ensures { result ≡ start_at index.now i }
-{
-    number_at(index, (i as usize) * ENTRY + START)
-}
-
-// How far b lies behind a.
-fn distance(a: u32, b: u32) -> usize
-    ensures { result ≡ b - a }
-{
-    if a <= b { (b - a) as usize } else { 0 }
-}
-
-// The joined text of the tokens under element i.
-pub fn text_at<'a>(image: &'a [u8], index: &[u32], i: u32) -> &'a [u8]
-    ensures { result.now ≡ text_at image.now index.now i }
-{
-    let start = start_at(index, i);
-    let end = start_at(index, end_at(index, i));
-    bytes::front(bytes::behind(image, start as usize), distance(start, end))
-}
-
-// Element i is an operator with text `+`.
-pub fn is_plus(image: &[u8], index: &[u32], i: u32) -> bool
-    ensures { result ≡ is_plus (part_at image.now index.now i) }
-{
-    let operator = is(kinds_of(Class::Operator), kind_at(index, i));
-    let s = text_at(image, index, i);
-    operator & is_plus_sign(s)
+    index.get(i).copied().unwrap_or(0)
 }
 
 // s is `+`.
 fn is_plus_sign(s: &[u8]) -> bool
     ensures { result ≡ same_bytes s.now (ascii "+") }
 {
-    if s.len() != 1 {
-        return false;
-    }
-    s[0] == b'+'
+    (s.len() == 1) && (s[0] == b'+')
 }
 
 // How many are still to be passed, after one that counts or not.
 fn count_down(left: u32, counts: bool) -> u32
     ensures { result ≡ cond counts (left - 1) left }
 {
-    if !counts {
-        return left;
-    }
-    if left == 0 {
-        return 0;
-    }
-    left - 1
-}
-
-// The first part of these kinds of the siblings from a on that begin before b.
-pub fn first_from(image: &[u8], index: &[u32], w: Kinds, a: u32, b: u32) -> Found
-    requires { Region image.now index.now a b }
-    ensures { found result ≡ number_of (nth_of w 0 (parts_from image.now index.now a b)) }
-{
-    let mut j = a;
-    while j < b {
-        if is(w, kind_at(index, j)) {
-            return Found::At(Element(j));
-        }
-        j = end_at(index, j);
-    }
-    Found::Nothing
-}
-
-// The n-th part of these kinds, from 0, of the siblings from a on that begin before b.
-pub fn nth_of(image: &[u8], index: &[u32], w: Kinds, n: u32, a: u32, b: u32) -> Found
-    requires { Region image.now index.now a b }
-    ensures { found result ≡ number_of (nth_of w n (parts_from image.now index.now a b)) }
-{
-    let mut left = n;
-    let mut j = a;
-    while j < b {
-        let counts = is(w, kind_at(index, j));
-        if counts & (left == 0) {
-            return Found::At(Element(j));
-        }
-        left = count_down(left, counts);
-        j = end_at(index, j);
-    }
-    Found::Nothing
+    if counts { left.saturating_sub(1) } else { left }
 }
 
 // The element last found.
-fn later(last: Found, counts: bool, j: u32) -> Found
+fn later(last: Option<Element>, counts: bool, j: u32) -> Option<Element>
     ensures { found result ≡ cond counts (some j) (found last) }
 {
-    if counts { Found::At(Element(j)) } else { last }
+    if counts { Some(Element(j)) } else { last }
 }
 
-// The last part of these kinds of the siblings from a on that begin before b.
-pub fn last_of(image: &[u8], index: &[u32], w: Kinds, a: u32, b: u32) -> Found
-    requires { Region image.now index.now a b }
-    ensures { found result ≡ number_of (last_of w (parts_from image.now index.now a b)) }
-{
-    let mut last = Found::Nothing;
-    let mut j = a;
-    while j < b {
-        last = later(last, is(w, kind_at(index, j)), j);
-        j = end_at(index, j);
+// A tree: its image, and the index of its elements.
+#[derive(Drop)]
+pub struct Tree<'a> {
+    pub image: &'a [u8],
+    pub index: &'a [u32],
+}
+
+impl<'a> Model for Tree<'a> {
+    ghost Value = { Source };
+
+    ghost view = { λ t. record { image = t.image.now; index = t.index.now } };
+}
+
+impl<'a> Tree<'a> {
+    // The kind of element i.
+    #[tactic(auto, unfolding(crate::specs::Index::kind_at))]
+    pub fn kind_at(&self, i: u32) -> u32
+        ensures { result ≡ kind_at self.now.index i }
+    {
+        number_at(self.index, (i as usize) * ENTRY)
     }
-    last
-}
 
-// The first `+` of the siblings from a on that begin before b.
-pub fn plus_of(image: &[u8], index: &[u32], a: u32, b: u32) -> Found
-    requires { Region image.now index.now a b }
-    ensures { found result ≡ number_of (plus_of (parts_from image.now index.now a b)) }
-{
-    let mut j = a;
-    while j < b {
-        if is_plus(image, index, j) {
-            return Found::At(Element(j));
+    // Where the subtree of element i ends.
+    #[tactic(auto, unfolding(crate::specs::Index::end_at))]
+    pub fn end_at(&self, i: u32) -> u32
+        ensures { result ≡ end_at self.now.index i }
+    {
+        number_at(self.index, (i as usize) * ENTRY + END)
+    }
+
+    // Where the text of element i starts.
+    #[tactic(auto, unfolding(crate::specs::Index::start_at))]
+    pub fn start_at(&self, i: u32) -> u32
+        ensures { result ≡ start_at self.now.index i }
+    {
+        number_at(self.index, (i as usize) * ENTRY + START)
+    }
+
+    // The joined text of the tokens under element i.
+    #[tactic(auto, unfolding(crate::specs::Index::text_at))]
+    pub fn text_at(&self, i: u32) -> &'a [u8]
+        ensures { result.now ≡ text_at self.now.image self.now.index i }
+    {
+        let start = self.start_at(i);
+        let end = self.start_at(self.end_at(i));
+        text::front(
+            text::behind(self.image, start as usize),
+            end.saturating_sub(start) as usize,
+        )
+    }
+
+    // Element i is an operator with text `+`.
+    #[tactic(auto, unfolding(crate::specs::Class::is_plus))]
+    pub fn is_plus(&self, i: u32) -> bool
+        ensures { result ≡ is_plus (part_at self.now.image self.now.index i) }
+    {
+        let operator = is(kinds_of(Class::Operator), self.kind_at(i));
+        let s = self.text_at(i);
+        operator & is_plus_sign(s)
+    }
+
+    // The first part of these kinds of the siblings from a on that begin before b.
+    pub fn first_from(&self, w: Kinds, a: u32, b: u32) -> Option<Element>
+        requires { Region self.now.image self.now.index a b }
+        ensures { found result ≡ number_of (nth_of w 0 (parts_from self.now.image self.now.index a b)) }
+    {
+        let mut j = a;
+        while j < b {
+            if is(w, self.kind_at(j)) {
+                return Some(Element(j));
+            }
+            j = self.end_at(j);
         }
-        j = end_at(index, j);
+        None
     }
-    Found::Nothing
+
+    // The n-th part of these kinds, from 0, of the siblings from a on that begin before b.
+    pub fn nth_of(&self, w: Kinds, n: u32, a: u32, b: u32) -> Option<Element>
+        requires { Region self.now.image self.now.index a b }
+        ensures { found result ≡ number_of (nth_of w n (parts_from self.now.image self.now.index a b)) }
+    {
+        let mut left = n;
+        let mut j = a;
+        while j < b {
+            let counts = is(w, self.kind_at(j));
+            if counts & (left == 0) {
+                return Some(Element(j));
+            }
+            left = count_down(left, counts);
+            j = self.end_at(j);
+        }
+        None
+    }
+
+    // The last part of these kinds of the siblings from a on that begin before b.
+    pub fn last_of(&self, w: Kinds, a: u32, b: u32) -> Option<Element>
+        requires { Region self.now.image self.now.index a b }
+        ensures { found result ≡ number_of (last_of w (parts_from self.now.image self.now.index a b)) }
+    {
+        let mut last = None;
+        let mut j = a;
+        while j < b {
+            last = later(last, is(w, self.kind_at(j)), j);
+            j = self.end_at(j);
+        }
+        last
+    }
+
+    // The first `+` of the siblings from a on that begin before b.
+    pub fn plus_of(&self, a: u32, b: u32) -> Option<Element>
+        requires { Region self.now.image self.now.index a b }
+        ensures { found result ≡ number_of (plus_of (parts_from self.now.image self.now.index a b)) }
+    {
+        let mut j = a;
+        while j < b {
+            if self.is_plus(j) {
+                return Some(Element(j));
+            }
+            j = self.end_at(j);
+        }
+        None
+    }
 }

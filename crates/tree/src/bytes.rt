@@ -19,59 +19,51 @@ pub struct Header {
 fn byte_at(s: &[u8], i: usize) -> u8
     ensures { result ≡ byte s.now i }
 {
-    if i < s.len() { s[i] } else { 0 }
-}
-
-// What stands in s from place n on.
-pub fn behind(s: &[u8], n: usize) -> &[u8]
-    ensures { result.now ≡ drop n s.now }
-{
-    let end = s.len();
-    if n <= end { &s[n..] } else { &s[end..] }
-}
-
-// The first n bytes of s, or all of them if there are fewer.
-pub fn front(s: &[u8], n: usize) -> &[u8]
-    ensures { result.now ≡ take n s.now }
-{
-    if n <= s.len() { &s[..n] } else { s }
+    s.get(i).copied().unwrap_or(0)
 }
 
 // The little-endian number of the two bytes at i.
+#[tactic(auto, unfolding(crate::specs::Tree::le16))]
 fn u16_at(s: &[u8], i: usize) -> u16
     requires { i + 1 < 2 ^ 64 }
     ensures { result ≡ le16 s.now i }
 {
-    byte_at(s, i) as u16 + 256 * (byte_at(s, i + 1) as u16)
+    u16::from_le_bytes([byte_at(s, i), byte_at(s, i + 1)])
 }
 
 // The little-endian number of the four bytes at i.
+#[tactic(auto, unfolding(crate::specs::Tree::le16, crate::specs::Tree::le32))]
 fn u32_at(s: &[u8], i: usize) -> u32
     requires { i + 3 < 2 ^ 64 }
     ensures { result ≡ le32 s.now i }
 {
-    u16_at(s, i) as u32 + 65536 * (u16_at(s, i + 2) as u32)
+    u32::from_le_bytes([
+        byte_at(s, i),
+        byte_at(s, i + 1),
+        byte_at(s, i + 2),
+        byte_at(s, i + 3),
+    ])
 }
 
 // The number whose two bytes stand at a place.
 pub fn short_at(s: &[u8], at: usize) -> u16
     ensures { result ≡ le16 s.now at }
 {
-    u16_at(behind(s, at), 0)
+    u16_at(text::behind(s, at), 0)
 }
 
 // The number whose four bytes stand at a place.
 pub fn number_at(s: &[u8], at: usize) -> u32
     ensures { result ≡ le32 s.now at }
 {
-    u32_at(behind(s, at), 0)
+    u32_at(text::behind(s, at), 0)
 }
 
 // The element whose eight bytes stand at a place.
 pub fn header_at(s: &[u8], at: usize) -> Header
     ensures { result ≡ header_at s.now at }
 {
-    let t = behind(s, at);
+    let t = text::behind(s, at);
     Header {
         kind: u16_at(t, 0) as u32,
         level: u16_at(t, LEVEL),
@@ -80,22 +72,25 @@ pub fn header_at(s: &[u8], at: usize) -> Header
 }
 
 // The number of two bytes that stand in s.
+#[tactic(auto, unfolding(crate::specs::Tree::le16))]
 pub(crate) fn short_in(s: &[u8], at: usize) -> u16
     requires { at + 1 < length s.now }
     ensures { result ≡ le16 s.now at }
 {
-    s[at] as u16 + 256 * (s[at + 1] as u16)
+    u16::from_le_bytes([s[at], s[at + 1]])
 }
 
 // The number of four bytes that stand in s.
+#[tactic(auto, unfolding(crate::specs::Tree::le16, crate::specs::Tree::le32))]
 pub(crate) fn number_in(s: &[u8], at: usize) -> u32
     requires { at + 3 < length s.now }
     ensures { result ≡ le32 s.now at }
 {
-    short_in(s, at) as u32 + 65536 * (short_in(s, at + 2) as u32)
+    u32::from_le_bytes([s[at], s[at + 1], s[at + 2], s[at + 3]])
 }
 
 // The element whose eight bytes stand in s.
+#[tactic(auto, unfolding(crate::specs::Image::header_at))]
 pub(crate) fn header_in(s: &[u8], at: usize) -> Header
     requires { at + 7 < length s.now }
     ensures { result ≡ header_at s.now at }
@@ -105,11 +100,4 @@ pub(crate) fn header_in(s: &[u8], at: usize) -> Header
         level: short_in(s, at + LEVEL),
         size: number_in(s, at + LENGTH),
     }
-}
-
-// How many bytes stand from a place on.
-pub fn left_at(s: &[u8], at: usize) -> usize
-    ensures { result ≡ length s.now - at }
-{
-    if at <= s.len() { s.len() - at } else { 0 }
 }

@@ -90,6 +90,7 @@ fn without(lo: u32, hi: u32, but: u32) -> Kinds
 }
 
 // The kinds of a class.
+#[tactic(auto, unfolding(crate::specs::Class::kinds))]
 pub fn kinds_of(c: Class) -> Kinds
     ensures { result ≡ kinds c }
 {
@@ -156,8 +157,9 @@ pub fn kinds_of(c: Class) -> Kinds
 }
 
 // Whether k is one of the kinds.
+#[tactic(auto, unfolding(crate::specs::Class::one_of))]
 pub fn is(w: Kinds, k: u32) -> bool
     ensures { result ≡ one_of w k }
 {
-    (w.lo <= k) & (k <= w.hi) & (k != w.but)
+    (w.lo..=w.hi).contains(&k) & (k != w.but)
 }

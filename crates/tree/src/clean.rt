@@ -1,6 +1,6 @@
 // The tests 3 to 9 in one pass over the elements. Nearly every image passes them; where one may not, the tests by themselves
 // say why.
-ghost use Rattle.std.specs.Prelude.{◌≡◌, true, false, cond, ◌&&◌, ◌||◌, max, ◌+◌, ◌≤◌, eqb, ltb, leb, length};
+ghost use Rattle.std.specs.Prelude.{◌≡◌, true, false, cond, ◌&&◌, ◌||◌, ◌+◌, ◌≤◌, eqb, ltb, leb, length};
 ghost use Rattle.std.proofs.Math.Option.{none};
 ghost use Rattle.text.specs.Text.{valid};
 ghost use Rattle.tree.specs.Image.{kind_in, level_in, size_in};
@@ -13,29 +13,6 @@ use super::read::COUNT;
 use super::refuse::{MAX_LEVEL, is_misformed, is_unknown, nameless_at};
 use numbers::kind;
 
-// The first byte that is not ASCII.
-const PAST_ASCII: u8 = 128;
-
-// The larger of two bytes.
-fn larger(a: u8, b: u8) -> u8
-    ensures { result ≡ max a b }
-{
-    if a < b { b } else { a }
-}
-
-// All bytes are ASCII: their largest is. No byte ends the loop, so that many are compared at once.
-fn is_ascii(s: &[u8]) -> bool
-    ensures { result ≡ true → Ascii s.now }
-{
-    let mut top = 0;
-    let mut i = 0;
-    while i < s.len() {
-        top = larger(top, s[i]);
-        i += 1;
-    }
-    top < PAST_ASCII
-}
-
 // A text is valid UTF-8. Where all texts are ASCII, which was asked before, it is not read.
 fn is_valid(ascii: bool, s: &[u8]) -> bool
     requires { ascii ≡ true → Ascii s.now }
@@ -44,7 +21,7 @@ fn is_valid(ascii: bool, s: &[u8]) -> bool
     if ascii {
         return true;
     }
-    if is_ascii(s) {
+    if s.is_ascii() {
         return true;
     }
     text::is_utf8(s)
@@ -97,6 +74,7 @@ fn starts_right(image: &[u8]) -> bool
 }
 
 // No element offends. Asked of an image that passed the tests 1 and 2.
+#[tactic(auto, using(crate::proofs::Passing::measures))]
 pub(crate) fn is_clean(image: &[u8]) -> bool
     requires image_value { wrong_length image.now ≡ false }
     requires image_value_2 { out_of_limits image.now ≡ false }
@@ -108,10 +86,9 @@ pub(crate) fn is_clean(image: &[u8]) -> bool
     let n = read::count_in(image);
     let end = image.len();
     let mut at = read::place_of(n) + COUNT;
-    let ascii = is_ascii(&image[at..]);
+    let ascii = image[at..].is_ascii();
     let mut deepest = 1;
-    let mut i = 1;
-    while i < n {
+    for i in 1..n {
         let e = read::element_in(image, i);
         let size = e.size as usize;
         if is_misplaced(e, deepest) | (end - at < size) {
@@ -126,7 +103,6 @@ pub(crate) fn is_clean(image: &[u8]) -> bool
         }
         deepest = deepest_behind(e);
         at = next;
-        i += 1;
     }
     at == end
 }

@@ -1,11 +1,11 @@
 // The index of the tree: kind, end of the subtree and start of the text of each element, and an entry more for the end.
-// Starts are places in the image, so that the image itself is handed to the accessors.
+// Starts are places in the image, so that the image itself is handed to the accessors. An entry is three numbers in a lent table: there is no heap.
 ghost use Rattle.std.specs.Prelude.{◌≡◌, ◌+◌, ◌*◌, ◌<◌, ◌≤◌, length, set};
 ghost use Rattle.tree.specs.Tree.{count_n};
 ghost use Rattle.tree.specs.Index.{IndexedFrom, Indexable, Filled, Tried, end_in};
 
 use super::access::{END, ENTRY, START};
-use super::{Tested, read};
+use super::read;
 
 // Writes the entry of element i.
 fn put_entry(table: &mut [u32], i: u32, kind: u32, end: u32, start: u32)
@@ -39,6 +39,7 @@ fn find_end(image: &[u8], table: &[u32], n: u32, i: u32) -> u32
 }
 
 // Writes the index of an image that passed the tests, from the last element to the first.
+#[tactic(auto, using(crate::proofs::Passing::accepts))]
 pub fn index(image: &[u8], table: &mut [u32])
     requires { Indexable image.now table.old }
     ensures { Filled image.now table.old table.new }
@@ -46,9 +47,7 @@ pub fn index(image: &[u8], table: &mut [u32])
     let n = read::count_in(image);
     let mut start = image.len() as u32;
     put_entry(table, n, 0, n, start);
-    let mut i = n;
-    while 0 < i {
-        i -= 1;
+    for i in (0..n).rev() {
         start -= read::size_in(image, i);
         let kind = read::kind_in(image, i);
         let end = find_end(image, table, n, i);
@@ -60,11 +59,10 @@ pub fn index(image: &[u8], table: &mut [u32])
 pub fn try_index(image: &[u8], table: &mut [u32]) -> bool
     ensures { Tried image.now table.old table.new result }
 {
-    let t = super::refusal(image);
-    let Tested::Accepted { elements, bytes: _ } = t else {
+    let Ok(accepted) = super::refusal(image) else {
         return false;
     };
-    if table.len() < (elements as usize) * ENTRY + ENTRY {
+    if table.len() < (accepted.elements as usize) * ENTRY + ENTRY {
         return false;
     }
     index(image, table);

@@ -10,109 +10,65 @@ mod read;
 mod reader;
 mod refuse;
 
-ghost use Rattle.std.specs.Prelude.{◌≡◌, not};
-ghost use Rattle.text.specs.Basic.{present, or_else};
+ghost use Rattle.std.specs.Prelude.{◌≡◌};
+ghost use Rattle.numbers.specs.Refusal.{number_of};
+ghost use Rattle.tree.specs.Refusal.{refused_at};
+ghost use Rattle.tree.specs.Answer.{found, said, answer, refused_by};
 ghost use Rattle.tree.specs.Tree.{count_n, count_b};
-ghost use Rattle.tree.specs.declared.Tested.TheVariants.{Refused, Accepted};
-ghost use Rattle.tree.specs.Answer.{found, said, answer};
 
+pub use access::Tree;
 use numbers::Element;
-use numbers::refusal::{Reason, Refusal, whole};
+use numbers::refusal::{Reason, Refusal};
 pub use read::{byte_count, element_count};
-use refuse::Test;
 
-// The element that was looked for.
+// How many elements and bytes of text an image has that passed the tests.
 #[derive(Clone, Copy)]
-pub enum Found {
-    At(Element),
-    Nothing,
+pub struct Accepted {
+    pub elements: u32,
+    pub bytes: u32,
 }
 
-// Whether nothing was found.
-pub fn is_nothing(f: Found) -> bool
-    ensures { result ≡ not (present (found f)) }
-{
-    match f {
-        Found::At(_) => false,
-        Found::Nothing => true,
-    }
-}
-
-// The first if there is one, else the second.
-pub fn or_else(first: Found, second: Found) -> Found
-    ensures { found result ≡ or_else (found first) (found second) }
+// A test finds no element that offends, or the first one is why the image is turned away.
+fn none_offends(first: Option<Element>, reason: Reason) -> Result<(), Refusal>
+    ensures { refused_by result ≡ refused_at (number_of reason) (found first) }
 {
     match first {
-        Found::At(_) => first,
-        Found::Nothing => second,
+        Some(element) => Err(Refusal { reason, element }),
+        None => Ok(()),
     }
 }
 
-// What the tests 1 to 9 say of an image: why it is turned away, or how many elements and bytes of text it has.
-#[derive(Clone, Copy)]
-pub enum Tested {
-    Refused(Refusal),
-    Accepted { elements: u32, bytes: u32 },
-}
-
-// A refusal for a reason that names an element.
-fn refused(reason: Reason, element: Element) -> Tested
-    ensures { result ≡ Refused (record { reason = reason; element = element }) }
+// What an image has that passed the tests.
+fn passed(image: &[u8]) -> Accepted
+    ensures { result ≡ record { elements = count_n image.now; bytes = count_b image.now } }
 {
-    Tested::Refused(Refusal { reason, element })
-}
-
-// The image passed the tests.
-fn passed(image: &[u8]) -> Tested
-    ensures { result ≡ Accepted (count_n image.now) (count_b image.now) }
-{
-    Tested::Accepted {
+    Accepted {
         elements: read::element_count(image),
         bytes: read::byte_count(image),
     }
 }
 
-// The tests 1 to 9, each over the whole image before the next. All but the first two are passed at once by an image in which
-// no element offends.
-pub fn refusal(image: &[u8]) -> Tested
+// What the tests 1 to 9 say of an image, each over the whole image before the next: why it is turned away, or how much it has.
+// All but the first two are passed at once by an image in which no element offends.
+#[tactic(auto, using(crate::proofs::Verdict::left, crate::proofs::Passing::measures), unfolding(crate::specs::Answer::answer, crate::specs::Refusal::refusal, crate::specs::Refusal::tests))]
+pub fn refusal(image: &[u8]) -> Result<Accepted, Refusal>
     ensures { said result ≡ answer image.now }
 {
     if refuse::wrong_length(image) {
-        return Tested::Refused(whole(Reason::WrongLength));
+        return Err(Refusal::from(Reason::WrongLength));
     }
     if refuse::out_of_limits(image) {
-        return Tested::Refused(whole(Reason::OutOfLimits));
+        return Err(Refusal::from(Reason::OutOfLimits));
     }
     if clean::is_clean(image) {
-        return passed(image);
+        return Ok(passed(image));
     }
-    let unknown = refuse::first_where(image, Test::UnknownKind);
-    if let Found::At(e) = unknown {
-        return refused(Reason::UnknownKind, e);
-    }
-    let misplaced = refuse::first_misplaced(image);
-    if let Found::At(e) = misplaced {
-        return refused(Reason::Misplaced, e);
-    }
-    let size = refuse::wrong_sizes(image);
-    if let Found::At(e) = size {
-        return refused(Reason::WrongSize, e);
-    }
-    let encoded = refuse::first_where(image, Test::NotUtf8);
-    if let Found::At(e) = encoded {
-        return refused(Reason::NotUtf8, e);
-    }
-    let block = refuse::first_where(image, Test::StringBlock);
-    if let Found::At(e) = block {
-        return refused(Reason::StringBlock, e);
-    }
-    let comment = refuse::first_where(image, Test::Misformed);
-    if let Found::At(e) = comment {
-        return refused(Reason::Misformed, e);
-    }
-    let name = refuse::first_nameless(image);
-    if let Found::At(e) = name {
-        return refused(Reason::Nameless, e);
-    }
-    passed(image)
+    none_offends(refuse::first_unknown(image), Reason::UnknownKind)?;
+    none_offends(refuse::first_misplaced(image), Reason::Misplaced)?;
+    none_offends(refuse::wrong_sizes(image), Reason::WrongSize)?;
+    none_offends(refuse::first_not_utf8(image), Reason::NotUtf8)?;
+    none_offends(refuse::first_string_block(image), Reason::StringBlock)?;
+    none_offends(refuse::first_misformed(image), Reason::Misformed)?;
+    none_offends(refuse::first_nameless(image), Reason::Nameless)?;
+    Ok(passed(image))
 }

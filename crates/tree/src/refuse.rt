@@ -1,15 +1,16 @@
-// The tests 1 to 9. `first_where` walks the elements for those that look at one element at a time.
-ghost use Rattle.std.specs.Prelude.{◌≡◌, not, ◌&&◌, [], ◌+◌, ◌*◌, ◌<◌, ◌≤◌, suc, eqb, length, drop};
+// The tests 1 to 9. `first_where` walks the elements for all but the first two.
+ghost use Rattle.std.specs.Prelude.{◌≡◌, ℕ, Bool, not, ◌&&◌, [], ◌+◌, ◌*◌, ◌<◌, ◌≤◌, suc, eqb, length, drop};
 ghost use Rattle.text.specs.Basic.{sum};
 ghost use Rattle.tree.specs.Tree;
 ghost use Rattle.tree.specs.Tree.{count_n, elements_of};
 ghost use Rattle.tree.specs.Image.{kind_in, level_in, start_in, element_in};
-ghost use Rattle.tree.specs.Refusal.{wrong_length, out_of_limits, first_where, unknown_kind, misplaced, first_misplaced, node_with_text, wrong_sizes, not_utf8, string_block, misformed, no_ident, first_nameless, test_of, misformed_block, nameless_in};
+ghost use Rattle.tree.specs.Refusal.{wrong_length, out_of_limits, first_where, unknown_kind, misplaced, first_misplaced, first_number, misplaced_in, node_with_text, wrong_sizes, not_utf8, string_block, misformed, no_ident, first_nameless, misformed_block, nameless_in};
 ghost use Rattle.tree.specs.Clean.{part};
 ghost use Rattle.tree.specs.Answer.{found};
 
+use super::read;
 use super::read::COUNT;
-use super::{Found, read, reader};
+use super::reader::Reader;
 use numbers::{Element, kind};
 
 const MAX_ELEMENTS: u32 = 4096;
@@ -18,29 +19,20 @@ const MAX_BYTES: u32 = 32000;
 
 pub const MAX_LEVEL: u32 = 200;
 
-// A test that looks at one element: for one of an unknown kind (3), a node with a length (5), a token whose text is not valid
-// UTF-8 (6), a string block (7), a misformed comment (8).
-#[derive(Clone, Copy)]
-pub enum Test {
-    UnknownKind,
-    NodeWithText,
-    NotUtf8,
-    StringBlock,
-    Misformed,
-}
-
 // 1: the image is too short to read N or B, or its length is not 8 + 8N + B.
 pub fn wrong_length(image: &[u8]) -> bool
     ensures { result ≡ wrong_length image.now }
 {
     let end = read::place_of(read::element_count(image));
     let b = read::byte_count(image) as usize;
-    let no_count = reader::left_from(image, 0) < COUNT;
-    let no_bytes = reader::left_from(image, end) < COUNT;
-    no_count | (no_bytes | (reader::left_from(image, end + COUNT) != b))
+    let r = Reader::new(image);
+    let no_count = r.left() < COUNT;
+    let no_bytes = r.skip(end).left() < COUNT;
+    no_count | (no_bytes | (r.skip(end + COUNT).left() != b))
 }
 
 // 2: N is 0 or above 4,096, or B is above 32,000.
+#[tactic(auto, unfolding(crate::specs::Refusal::out_of_limits))]
 pub fn out_of_limits(image: &[u8]) -> bool
     ensures { result ≡ out_of_limits image.now }
 {
@@ -50,14 +42,17 @@ pub fn out_of_limits(image: &[u8]) -> bool
 }
 
 // A kind is not in the tables.
+#[tactic(auto, unfolding(crate::specs::Refusal::unknown_kind))]
 pub fn is_unknown(k: u32) -> bool
     ensures { result ≡ unknown_kind (part k []) }
 {
-    !(((kind::FIRST_NODE <= k) & (k <= kind::LAST_NODE))
-        | ((kind::FIRST_TOKEN <= k) & (k <= kind::LAST_TOKEN)))
+    let node = (kind::FIRST_NODE..=kind::LAST_NODE).contains(&k);
+    let token = (kind::FIRST_TOKEN..=kind::LAST_TOKEN).contains(&k);
+    !(node | token)
 }
 
 // The kind of element i is not in the tables.
+#[tactic(auto, unfolding(crate::specs::Refusal::unknown_kind))]
 fn unknown_kind_at(image: &[u8], i: u32) -> bool
     ensures { result ≡ unknown_kind (element_in image.now i) }
 {
@@ -65,6 +60,7 @@ fn unknown_kind_at(image: &[u8], i: u32) -> bool
 }
 
 // Element i, behind the element before, is where no element may be.
+#[tactic(auto, unfolding(crate::specs::Refusal::misplaced))]
 fn misplaced_at(image: &[u8], before: u32, i: u32) -> bool
     ensures { result ≡ misplaced (element_in image.now before) (element_in image.now i) }
 {
@@ -86,28 +82,25 @@ fn starts_wrong(image: &[u8]) -> bool
     !((e.kind == kind::SOURCE_FILE) & (e.level == 0))
 }
 
+// Element i is where it may not be.
+fn misplaced_in(image: &[u8], i: u32) -> bool
+    ensures { result ≡ misplaced_in image.now i }
+{
+    if i == 0 {
+        return starts_wrong(image);
+    }
+    misplaced_at(image, i - 1, i)
+}
+
 // 4: the first element that is where it may not be.
-pub fn first_misplaced(image: &[u8]) -> Found
+pub fn first_misplaced(image: &[u8]) -> Option<Element>
     ensures { found result ≡ first_misplaced (elements_of image.now) }
 {
-    let n = read::element_count(image);
-    if n == 0 {
-        return Found::Nothing;
-    }
-    if starts_wrong(image) {
-        return Found::At(Element(0));
-    }
-    let mut i = 1;
-    while i < n {
-        if misplaced_at(image, i - 1, i) {
-            return Found::At(Element(i));
-        }
-        i += 1;
-    }
-    Found::Nothing
+    first_where(image, |i, _| misplaced_in(image, i))
 }
 
 // Element i is a node with a length other than 0.
+#[tactic(auto, unfolding(crate::specs::Refusal::node_with_text))]
 fn node_with_text_at(image: &[u8], i: u32) -> bool
     ensures { result ≡ node_with_text (element_in image.now i) }
 {
@@ -116,6 +109,7 @@ fn node_with_text_at(image: &[u8], i: u32) -> bool
 }
 
 // Element i is a token whose text is not valid UTF-8.
+#[tactic(auto, unfolding(crate::specs::Refusal::not_utf8))]
 fn not_utf8_at(image: &[u8], i: u32, at: usize) -> bool
     requires { at ≡ start_in image.now i }
     ensures { result ≡ not_utf8 (element_in image.now i) }
@@ -127,6 +121,7 @@ fn not_utf8_at(image: &[u8], i: u32, at: usize) -> bool
 }
 
 // Element i is a string block.
+#[tactic(auto, unfolding(crate::specs::Refusal::string_block))]
 fn string_block_at(image: &[u8], i: u32) -> bool
     ensures { result ≡ string_block (element_in image.now i) }
 {
@@ -159,6 +154,7 @@ pub fn is_misformed(k: u32, s: &[u8]) -> bool
 }
 
 // Element i is a misformed comment.
+#[tactic(auto, unfolding(crate::specs::Refusal::misformed))]
 fn misformed_at(image: &[u8], i: u32, at: usize) -> bool
     requires { at ≡ start_in image.now i }
     ensures { result ≡ misformed (element_in image.now i) }
@@ -167,64 +163,82 @@ fn misformed_at(image: &[u8], i: u32, at: usize) -> bool
     is_misformed(k, read::text_of(image, i, at))
 }
 
-// Element i, whose text starts at place at of the texts, is what a test looks for.
-fn offends(image: &[u8], t: Test, i: u32, at: usize) -> bool
-    requires { at ≡ start_in image.now i }
-    ensures { result ≡ test_of t (element_in image.now i) }
+// The first element that offends. A test is told an element's number, and where its text starts in the texts.
+fn first_where<F: Fn(u32, usize) -> bool>(image: &[u8], offends: F) -> Option<Element>
+    ghost test: { ℕ → Bool }
+    requires asked { (i at : ℕ) → i < count_n image.now → at ≡ start_in image.now i → F.pre offends i at }
+    requires told { (i at : ℕ) (r : Bool) → i < count_n image.now → at ≡ start_in image.now i → F.post offends i at r → r ≡ test i }
+    ensures { found result ≡ first_number test 0 (count_n image.now) }
 {
-    match t {
-        Test::UnknownKind => unknown_kind_at(image, i),
-        Test::NodeWithText => node_with_text_at(image, i),
-        Test::NotUtf8 => not_utf8_at(image, i, at),
-        Test::StringBlock => string_block_at(image, i),
-        Test::Misformed => misformed_at(image, i, at),
-    }
-}
-
-// The first element that is what a test looks for.
-pub fn first_where(image: &[u8], t: Test) -> Found
-    ensures { found result ≡ first_where (test_of t) (elements_of image.now) }
-{
-    let n = read::element_count(image);
     let mut at: usize = 0;
-    let mut i = 0;
-    while i < n {
-        if offends(image, t, i, at) {
-            return Found::At(Element(i));
+    for i in 0..read::element_count(image) {
+        if offends(i, at) {
+            return Some(Element(i));
         }
         at += read::size_of(image, i) as usize;
-        i += 1;
     }
-    Found::Nothing
+    None
+}
+
+// 3: the first element of a kind that is not in the tables.
+pub fn first_unknown(image: &[u8]) -> Option<Element>
+    ensures { found result ≡ first_where unknown_kind (elements_of image.now) }
+{
+    first_where(image, |i, _| unknown_kind_at(image, i))
+}
+
+// 5: the first node with a length other than 0.
+fn first_node_with_text(image: &[u8]) -> Option<Element>
+    ensures { found result ≡ first_where node_with_text (elements_of image.now) }
+{
+    first_where(image, |i, _| node_with_text_at(image, i))
+}
+
+// 6: the first token whose text is not valid UTF-8.
+pub fn first_not_utf8(image: &[u8]) -> Option<Element>
+    ensures { found result ≡ first_where not_utf8 (elements_of image.now) }
+{
+    first_where(image, |i, at| not_utf8_at(image, i, at))
+}
+
+// 7: the first string block.
+pub fn first_string_block(image: &[u8]) -> Option<Element>
+    ensures { found result ≡ first_where string_block (elements_of image.now) }
+{
+    first_where(image, |i, _| string_block_at(image, i))
+}
+
+// 8: the first misformed comment.
+pub fn first_misformed(image: &[u8]) -> Option<Element>
+    ensures { found result ≡ first_where misformed (elements_of image.now) }
+{
+    first_where(image, |i, at| misformed_at(image, i, at))
 }
 
 // 5: the sum of the lengths.
 fn sum_of_sizes(image: &[u8]) -> usize
     ensures { result ≡ sum (λ (e : Tree.Element). e.size) (elements_of image.now) }
 {
-    let n = read::element_count(image);
     let mut total: usize = 0;
-    let mut i = 0;
-    while i < n {
+    for i in 0..read::element_count(image) {
         total += read::size_of(image, i) as usize;
-        i += 1;
     }
     total
 }
 
 // 5: the first node with a length other than 0, or else N where the lengths do not add up to B.
-pub fn wrong_sizes(image: &[u8]) -> Found
+pub fn wrong_sizes(image: &[u8]) -> Option<Element>
     ensures { found result ≡ wrong_sizes image.now (elements_of image.now) }
 {
-    let node = first_where(image, Test::NodeWithText);
-    if let Found::At(_) = node {
+    let node = first_node_with_text(image);
+    if node.is_some() {
         return node;
     }
     if sum_of_sizes(image) == read::byte_count(image) as usize {
-        return Found::Nothing;
+        return None;
     }
     let n = read::element_count(image);
-    Found::At(Element(n))
+    Some(Element(n))
 }
 
 // Element i is an identifier at the level below a Name's.
@@ -244,15 +258,13 @@ fn lacks_ident(image: &[u8], i: u32) -> bool
 {
     let n = read::count_in(image);
     let name = read::level_in(image, i);
-    let mut j = i + 1;
-    while j < n {
+    for j in i + 1..n {
         if read::level_in(image, j) <= name {
             return true;
         }
         if ident_under(image, name, j) {
             return false;
         }
-        j += 1;
     }
     true
 }
@@ -270,17 +282,9 @@ pub(crate) fn nameless_at(image: &[u8], i: u32) -> bool
 }
 
 // 9: the first Name without an identifier.
-pub(crate) fn first_nameless(image: &[u8]) -> Found
+pub(crate) fn first_nameless(image: &[u8]) -> Option<Element>
     requires { 8 + 8 * count_n image.now ≤ length image.now }
     ensures { found result ≡ first_nameless (elements_of image.now) }
 {
-    let n = read::element_count(image);
-    let mut i = 0;
-    while i < n {
-        if nameless_at(image, i) {
-            return Found::At(Element(i));
-        }
-        i += 1;
-    }
-    Found::Nothing
+    first_where(image, |i, _| nameless_at(image, i))
 }

@@ -6,13 +6,14 @@ ghost use Rattle.std.specs.Prelude.{◌≡◌, slice_index};
 ghost use Rattle.tree.specs.Index.{Indexed};
 
 use cases::{
-    Agreement, behind, behind_fields, byte, front, line, load, more, nth_field, number, put,
+    Agreement, Cases, behind, behind_fields, byte, front, line, load, more, nth_field, number, put,
     put_all, word, zeros,
 };
-use numbers::refusal::number_of;
-use std::io::Result;
+use numbers::Element;
+use numbers::refusal::Refusal;
+use std::io;
 use tree::class::Kinds;
-use tree::{Found, Tested};
+use tree::{Accepted, Tree};
 
 // A vector has four fields: its operation, an image, what else is asked, and what is expected.
 const FIELDS: usize = 4;
@@ -42,25 +43,19 @@ const IMAGE: usize = 4096;
 const FILE: usize = 524288;
 
 // An answer of the tests: the refusal's number, or 0, and the element.
-#[derive(Clone, Copy)]
+#[derive(Clone, Copy, PartialEq, Eq)]
 struct Answer {
     number: usize,
     element: usize,
 }
 
-fn answer_of(t: Tested) -> Answer {
+fn answer_of(t: Result<Accepted, Refusal>) -> Answer {
     match t {
-        Tested::Refused(r) => {
-            let reason = r.reason;
-            Answer {
-                number: number_of(reason) as usize,
-                element: r.element.0 as usize,
-            }
-        }
-        Tested::Accepted {
-            elements: _,
-            bytes: _,
-        } => Answer {
+        Err(r) => Answer {
+            number: u32::from(r.reason) as usize,
+            element: r.element.0 as usize,
+        },
+        Ok(_) => Answer {
             number: 0,
             element: 0,
         },
@@ -69,32 +64,25 @@ fn answer_of(t: Tested) -> Answer {
 
 // The tests answer as the k-th expected answer says.
 fn answers(image: &[u8], want: &[u8], k: usize) -> bool {
-    let t = answer_of(tree::refusal(image));
     if want.len() / ANSWER <= k {
         return false;
     }
     let w = behind(want, k * ANSWER);
-    (t.number == byte(w, 0) as usize) & (t.element == number(behind(w, 1)) as usize)
+    let wanted = Answer {
+        number: byte(w, 0) as usize,
+        element: number(behind(w, 1)) as usize,
+    };
+    answer_of(tree::refusal(image)) == wanted
 }
 
 // The number that a search found, and 1 more; 0 where it found none.
-fn place(f: Found) -> usize {
-    match f {
-        Found::At(e) => e.0 as usize + 1,
-        Found::Nothing => 0,
-    }
+fn place(f: Option<Element>) -> usize {
+    f.map_or(0, |e| e.0 as usize + 1)
 }
 
 // The table begins with these numbers, two bytes each.
 fn is_table(table: &[u32], want: &[u8]) -> bool {
-    let mut i = 0;
-    while i < want.len() / 2 {
-        if word(table, i) != number(behind(want, i * 2)) as u32 {
-            return false;
-        }
-        i += 1;
-    }
-    true
+    (0..want.len() / 2).all(|i| word(table, i) == number(behind(want, i * 2)) as u32)
 }
 
 // The kinds that are asked for.
@@ -111,20 +99,20 @@ fn wanted(args: &[u8]) -> Kinds
 }
 
 // What an accessor finds among the children of a node.
-fn found(image: &[u8], table: &[u32], op: u16, args: &[u8]) -> Found
-    requires { Indexed image.now table.now }
+fn found(tree: &Tree, op: u16, args: &[u8]) -> Option<Element>
+    requires { Indexed tree.now.image tree.now.index }
 {
     let node = number(args) as u32;
-    if tree::element_count(image) <= node {
-        return Found::Nothing;
+    if tree::element_count(tree.image) <= node {
+        return None;
     }
     let a = node + 1;
-    let b = tree::access::end_at(table, node);
+    let b = tree.end_at(node);
     let w = wanted(args);
     match op {
-        NTH => tree::access::nth_of(image, table, w, byte(args, 5) as u32, a, b),
-        LAST => tree::access::last_of(image, table, w, a, b),
-        _ => tree::access::plus_of(image, table, a, b),
+        NTH => tree.nth_of(w, byte(args, 5) as u32, a, b),
+        LAST => tree.last_of(w, a, b),
+        _ => tree.plus_of(a, b),
     }
 }
 
@@ -140,7 +128,11 @@ fn agrees(op: u16, image: &[u8], args: &[u8], want: &[u8]) -> bool {
     if op == INDEX {
         return is_table(&table, want);
     }
-    place(found(image, &table, op, args)) == number(want) as usize
+    let tree = Tree {
+        image,
+        index: &table,
+    };
+    place(found(&tree, op, args)) == number(want) as usize
 }
 
 // The first vector of v is tried, if it is of this operation.
@@ -154,11 +146,8 @@ fn tried(v: &[u8], op: u16, found: Agreement) -> Agreement {
 // The vectors of one operation.
 fn replayed(v: &[u8], op: u16) -> Agreement {
     let mut found = Agreement::none();
-    let mut rest = v;
-    while 0 < rest.len() {
-        found = tried(rest, op, found);
-        let next = behind_fields(rest, FIELDS);
-        rest = next;
+    for case in Cases::of(v, FIELDS) {
+        found = tried(case, op, found);
     }
     found
 }
@@ -166,10 +155,8 @@ fn replayed(v: &[u8], op: u16) -> Agreement {
 // How many shorter beginnings of an image have the expected answers.
 fn beginnings(image: &[u8], want: &[u8]) -> u64 {
     let mut right: u64 = 0;
-    let mut n = 0;
-    while n < image.len() {
+    for n in 0..image.len() {
         right = more(right, answers(front(image, n), want, n));
-        n += 1;
     }
     right
 }
@@ -190,13 +177,13 @@ fn changed_at(image: &mut [u8], n: usize, at: usize, want: &[u8]) -> u64 {
 fn changed(image: &mut [u8], n: usize, want: &[u8]) -> u64 {
     let mut right: u64 = 0;
     for at in 0..n {
-        right = std::num::wrapping_add_u64(right, changed_at(image, n, at, nth_field(want, at)));
+        right = right.wrapping_add(changed_at(image, n, at, nth_field(want, at)));
     }
     right
 }
 
 // Every shorter beginning of an image, and every copy with one byte changed.
-fn damage(rt: &impl Print, v: &[u8]) -> Result<()> {
+fn damage(rt: &impl Print, v: &[u8]) -> io::Result<()> {
     let mut image = [0u8; IMAGE];
     let n = put_all(&mut image, 0, nth_field(v, 0));
     line(rt, b"beginnings", n as u64)?;
@@ -213,7 +200,7 @@ fn damage(rt: &impl Print, v: &[u8]) -> Result<()> {
     )
 }
 
-fn replay_all(rt: &impl Print, v: &[u8]) -> Result<()> {
+fn replay_all(rt: &impl Print, v: &[u8]) -> io::Result<()> {
     replayed(v, REFUSAL).print(rt, b"refusals")?;
     replayed(v, INDEX).print(rt, b"indexes")?;
     replayed(v, NTH).print(rt, b"n-th parts")?;
@@ -221,7 +208,7 @@ fn replay_all(rt: &impl Print, v: &[u8]) -> Result<()> {
     replayed(v, PLUS).print(rt, b"plus signs")
 }
 
-fn main(rt: HostRuntime) -> Result<()> {
+fn main(rt: HostRuntime) -> io::Result<()> {
     let mut file = zeros::<FILE>();
     let n = load(&rt, "vectors.bin", &mut file)?;
     replay_all(&rt, front(&file, n))?;

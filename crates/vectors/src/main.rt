@@ -17,6 +17,8 @@ const REPLY: usize = 65_536;
 
 // An answer is counted by its number: 0 for a listing, that of a refusal, and one that no refusal has if it is not the one in the
 // file.
+const LISTED: usize = 0;
+
 const REFUSALS: usize = 13;
 
 const DIFFERENT: usize = 255;
@@ -30,10 +32,12 @@ fn replied(image: &[u8], mode: Mode, want: &[u8]) -> usize
     let mut out = [0u8; REPLY];
     let r = respond(image, mode, &mut out);
     let n = r.bytes;
-    if &out[..n] == want {
-        r.number as usize
-    } else {
-        DIFFERENT
+    if &out[..n] != want {
+        return DIFFERENT;
+    }
+    match r.refused {
+        None => LISTED,
+        Some(reason) => u32::from(reason) as usize,
     }
 }
 
@@ -78,7 +82,7 @@ fn report_refusals(rt: &impl Print, counts: &[u64]) -> Result<()> {
 fn report(rt: &impl Print, v: &[u8], mode: Mode, title: &[u8]) -> Result<()> {
     let mut counts = [0u64; ANSWERS];
     line(rt, title, replay(v, mode, &mut counts))?;
-    line(rt, b"listings", counted(&counts, 0))?;
+    line(rt, b"listings", counted(&counts, LISTED))?;
     report_refusals(rt, &counts)?;
     line(rt, b"differ", counted(&counts, DIFFERENT))
 }

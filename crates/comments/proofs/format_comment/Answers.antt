@@ -11,59 +11,23 @@ pub returns-in-65 : goal.returns-in-65
 unfolding comment
 returns-in-65 c = same (keyed 65 _ _ _ c.in-65.is) c.print_multi_line.ensures
 
-pub shape_of-records-in-65 : goal.shape_of-records-in-65
-shape_of-records-in-65 c = (returns-in-65 c).same_records
-
-pub shape_of-texts-in-65 : goal.shape_of-texts-in-65
-shape_of-texts-in-65 c = (returns-in-65 c).same_texts
-
 pub returns-in-66 : goal.returns-in-66
 unfolding comment
 returns-in-66 c = same (keyed 66 _ _ _ c.in-66.is) c.print_text.ensures
-
-pub shape_of-records-in-66 : goal.shape_of-records-in-66
-shape_of-records-in-66 c = (returns-in-66 c).same_records
-
-pub shape_of-texts-in-66 : goal.shape_of-texts-in-66
-shape_of-texts-in-66 c = (returns-in-66 c).same_texts
 
 pub returns-in-67 : goal.returns-in-67
 unfolding comment
 returns-in-67 c = same (keyed 67 _ _ _ c.in-67.is) c.print_text-in-67.ensures
 
-pub shape_of-records-in-67 : goal.shape_of-records-in-67
-shape_of-records-in-67 c = (returns-in-67 c).same_records
-
-pub shape_of-texts-in-67 : goal.shape_of-texts-in-67
-shape_of-texts-in-67 c = (returns-in-67 c).same_texts
-
 pub returns-in-68 : goal.returns-in-68
 unfolding comment
 returns-in-68 c = same (keyed 68 _ _ _ c.in-68.is) c.print_hash.ensures
-
-pub shape_of-records-in-68 : goal.shape_of-records-in-68
-shape_of-records-in-68 c = (returns-in-68 c).same_records
-
-pub shape_of-texts-in-68 : goal.shape_of-texts-in-68
-shape_of-texts-in-68 c = (returns-in-68 c).same_texts
 
 pub returns-in-69 : goal.returns-in-69
 unfolding comment
 returns-in-69 c = same (keyed 69 _ _ _ c.in-69.is) c.print_slash.ensures
 
-pub shape_of-records-in-69 : goal.shape_of-records-in-69
-shape_of-records-in-69 c = (returns-in-69 c).same_records
-
-pub shape_of-texts-in-69 : goal.shape_of-texts-in-69
-shape_of-texts-in-69 c = (returns-in-69 c).same_texts
-
 pub returns-in_default : goal.returns-in_default
 returns-in_default c =
     let r = c.in_default.in_default-own.rest in
     same (erroneous _ _ _ r.0.0.0.0.0.1 r.0.0.0.0.1 r.0.0.0.1 r.0.0.1 r.0.1 r.1) c.print_error.ensures
-
-pub shape_of-records-in_default : goal.shape_of-records-in_default
-shape_of-records-in_default c = (returns-in_default c).same_records
-
-pub shape_of-texts-in_default : goal.shape_of-texts-in_default
-shape_of-texts-in_default c = (returns-in_default c).same_texts

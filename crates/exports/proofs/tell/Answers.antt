@@ -3,10 +3,10 @@ use mathlib.Core.Path.{refl}
 use Rattle.exports.specs.Comment.{code, counts_after}
 use Rattle.exports.proofs.tell.Goals as goal
 
-pub returns-in-Done : goal.returns-in-Done
+pub returns-in-Some : goal.returns-in-Some
 unfolding code counts_after
-returns-in-Done c = rw c.in-Done.is (record { value = refl; counts_after = refl })
+returns-in-Some c = rw c.in-Some.is (record { value = refl; counts_after = refl })
 
-pub returns-in-Full : goal.returns-in-Full
+pub returns-in-None : goal.returns-in-None
 unfolding code counts_after
-returns-in-Full c = search rules
+returns-in-None c = search rules

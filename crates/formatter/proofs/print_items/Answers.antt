@@ -1,15 +1,15 @@
-use mathlib.Core.Bool.{false}
 use mathlib.Core.Path.{refl, sym, ap}
+use mathlib.Core.Bool.{false}
 use Rattle.formatter.specs.Reply.{reply_to}
-use Rattle.formatter.proofs.Calls.{stated}
+use Rattle.formatter.proofs.Calls.{stated, unlisted-refused}
 use Rattle.formatter.proofs.print_items.Goals as goal
 
-pub returns-in-Refused : goal.returns-in-Refused
-returns-in-Refused c =
-    let r = stated c.serve-a.ensures (ap (reply_to false) (sym c.in-Refused.is)) refl in
+pub returns : goal.returns
+returns c =
+    let r = stated c.serve.ensures (ap (reply_to false) (sym c.in_ok-done.was)) refl in
     record { result_value = r.0; records_after = r.1.0; texts_after = r.1.1.0; answered_in = r.1.1.1 }
 
-pub returns-in-Listed : goal.returns-in-Listed
-returns-in-Listed c =
-    let r = stated c.serve-a.ensures (ap (reply_to false) (sym c.in-Listed.is)) refl in
+pub returns-in_err-done : goal.returns-in_err-done
+returns-in_err-done c =
+    let r = stated c.serve.ensures (unlisted-refused _ _ _ c.in_err-done.was c.from_residual.ensures.1) refl in
     record { result_value = r.0; records_after = r.1.0; texts_after = r.1.1.0; answered_in = r.1.1.1 }

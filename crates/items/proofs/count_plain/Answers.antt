@@ -16,8 +16,8 @@ overflow_cast-line c =
     let h = c.requires in
     omega (arith, (plain_fits _ _ h.le_kind h.kind_bound c.args.p c.plain_entry-e.ensures c.line_if-line.ensures h.p_value).after.lines)
 
-pub advanced-requires : goal.advanced-requires
-advanced-requires c =
+pub advance-requires : goal.advance-requires
+advance-requires c =
     let h = c.requires in
     let r = (plain_fits _ _ h.le_kind h.kind_bound c.args.p c.plain_entry-e.ensures c.line_if-line.ensures h.p_value).after in
     record { records = r.records; texts = omega (arith, r.texts); lines = r.lines }
@@ -25,4 +25,4 @@ advanced-requires c =
 pub returns : goal.returns
 returns c =
     let h = c.requires in
-    plain-sized _ _ h.le_kind h.kind_bound c.args.p c.plain_entry-e.ensures c.line_if-line.ensures c.advanced.ensures
+    plain-sized _ _ h.le_kind h.kind_bound c.args.p c.plain_entry-e.ensures c.line_if-line.ensures c.advance.ensures

@@ -9,8 +9,8 @@ overflow_cast-bytes c = omega (arith, (one-fits _ _ c.requires refl).second)
 pub overflow_cast-line : goal.overflow_cast-line
 overflow_cast-line c = omega (arith, (one-fits _ _ c.requires c.line_if-line.ensures).after.lines)
 
-pub advanced-requires : goal.advanced-requires
-advanced-requires c = (one-fits _ _ c.requires c.line_if-line.ensures).after
+pub advance-requires : goal.advance-requires
+advance-requires c = (one-fits _ _ c.requires c.line_if-line.ensures).after
 
 pub returns : goal.returns
-returns c = one-sized _ _ c.line_if-line.ensures c.advanced.ensures
+returns c = one-sized _ _ c.line_if-line.ensures c.advance.ensures

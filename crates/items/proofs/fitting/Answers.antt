@@ -4,11 +4,11 @@ use Rattle.items.specs.Names.{line_length}
 use Rattle.items.proofs.Decimals.{decimal-short}
 use Rattle.items.proofs.Lengths.{described-small}
 use Rattle.items.proofs.Fits.{counted-most}
-use Rattle.items.proofs.Numbers.{largest, brought-full, grown-is, grown-full, room-line}
+use Rattle.items.proofs.Numbers.{brought-full, grown-full, room-line}
 use Rattle.items.proofs.fitting.Goals as goal
 
-pub returns-then-larger-ge-LIMIT : goal.returns-then-larger-ge-LIMIT
-returns-then-larger-ge-LIMIT c = brought-full _ _ (largest _ _ _ c.larger.ensures c.larger-2.ensures) c.if-larger-ge-LIMIT.true
+pub returns-then-max-ge-LIMIT : goal.returns-then-max-ge-LIMIT
+returns-then-max-ge-LIMIT c = brought-full _ _ (rw c.max.ensures at c.max-2.ensures) c.if-max-ge-LIMIT.true
 
 pub overflow_add-lines : goal.overflow_add-lines
 overflow_add-lines c =
@@ -16,10 +16,10 @@ overflow_add-lines c =
     let f : s.e.first < 2 ^ 32 = omega arith in
     omega (arith, c.line_if-line.ensures, counted-most s.p.listed (line_length s.p.records s.e.kind s.e.first s.e.second), decimal-short s.p.records (omega arith), described-small s.e.kind s.e.first s.e.second (omega arith) (omega arith))
 
-pub returns-then-larger-ge-LIMIT-2 : goal.returns-then-larger-ge-LIMIT-2
-returns-then-larger-ge-LIMIT-2 c =
+pub returns-then-max-ge-LIMIT-2 : goal.returns-then-max-ge-LIMIT-2
+returns-then-max-ge-LIMIT-2 c =
     let s = c.args in
-    grown-full _ _ (grown-is s.e s.p c.line_if-line.ensures c.larger-3.ensures c.larger-4.ensures) c.if-larger-ge-LIMIT-2.true
+    grown-full _ _ (rw (c.max-3.ensures, c.line_if-line.ensures) at c.max-4.ensures) c.if-max-ge-LIMIT-2.true
 
 pub returns : goal.returns
-returns c = room-line _ _ c.line_if-line.ensures (largest _ _ _ c.larger.ensures c.larger-2.ensures) c.if-larger-ge-LIMIT.false (grown-is c.args.e c.args.p c.line_if-line.ensures c.larger-3.ensures c.larger-4.ensures) c.if-larger-ge-LIMIT-2.false
+returns c = room-line _ _ c.line_if-line.ensures (rw c.max.ensures at c.max-2.ensures) c.if-max-ge-LIMIT.false (rw (c.max-3.ensures, c.line_if-line.ensures) at c.max-4.ensures) c.if-max-ge-LIMIT-2.false

@@ -1,4 +1,4 @@
-use Rattle.listing.proofs.Writes.{◌▸◌, kept, room-first, ◌⟫◌}
+use Rattle.listing.proofs.Writes.{◌▸◌, room-first, ◌⟫◌}
 use Rattle.listing.proofs.put_field.Goals as goal
 
 pub put_name-named-requires : goal.put_name-named-requires
@@ -12,6 +12,3 @@ put_decimal-requires c = c.requires.room ⟫ c.put_name-named.ensures ⟫ c.put_
 
 pub returns : goal.returns
 returns c = c.put_name-named.ensures ▸ c.put_byte-parted.ensures ▸ c.put_decimal.ensures
-
-pub shape_of-out : goal.shape_of-out
-shape_of-out c = kept (returns c)

@@ -1,7 +1,7 @@
 use borrow.Author.Rules.{rules}
 use Rattle.listing.specs.Listing.{head_line}
 use Rattle.items.specs.Names.{other_names, names_of, name_at}
-use Rattle.listing.proofs.Writes.{◌▸◌, kept, room-first, ◌⟫◌}
+use Rattle.listing.proofs.Writes.{◌▸◌, room-first, ◌⟫◌}
 use Rattle.listing.proofs.put_head.Goals as goal
 
 pub put_field-records-requires : goal.put_field-records-requires
@@ -27,7 +27,3 @@ put_byte-requires c = c.requires ⟫ c.put_field-records.ensures ⟫ c.put_field
 pub returns : goal.returns
 unfolding head_line other_names names_of name_at
 returns c = c.put_field-records.ensures ▸ c.put_field-texts.ensures ▸ c.put_field-runs.ensures ▸ c.put_field-marks.ensures ▸ c.put_byte.ensures
-
-pub shape_of-out : goal.shape_of-out
-unfolding head_line other_names names_of name_at
-shape_of-out c = kept (returns c)

@@ -1,7 +1,7 @@
 use borrow.Author.Rules.{rules}
 use native.Mathlib.Omega.{arith}
 use Rattle.listing.proofs.Items.{shown-text, shown-lines, shown-number, shown-name}
-use Rattle.listing.proofs.Writes.{by, kept, room_as}
+use Rattle.listing.proofs.Writes.{by, room_as}
 use Rattle.items.specs.Names.{other_names, names_of}
 use Rattle.listing.proofs.put_item.Goals as goal
 
@@ -13,10 +13,6 @@ pub returns-then-kind-eq-TEXT : goal.returns-then-kind-eq-TEXT
 unfolding other_names names_of
 returns-then-kind-eq-TEXT c = by (shown-text _ _ _ _ c.if-kind-eq-TEXT.true) c.put_text.ensures
 
-pub shape_of-out-then-kind-eq-TEXT : goal.shape_of-out-then-kind-eq-TEXT
-unfolding other_names names_of
-shape_of-out-then-kind-eq-TEXT c = kept (returns-then-kind-eq-TEXT c)
-
 pub put_field-requires : goal.put_field-requires
 unfolding other_names names_of
 put_field-requires c = record { known = search rules; room = room_as (shown-lines _ _ _ _ c.if-kind-eq-TEXT.false c.if-kind-first.true) c.requires.room }
@@ -24,10 +20,6 @@ put_field-requires c = record { known = search rules; room = room_as (shown-line
 pub returns-then-kind-first : goal.returns-then-kind-first
 unfolding other_names names_of
 returns-then-kind-first c = by (shown-lines _ _ _ _ c.if-kind-eq-TEXT.false c.if-kind-first.true) c.put_field.ensures
-
-pub shape_of-out-then-kind-first : goal.shape_of-out-then-kind-first
-unfolding other_names names_of
-shape_of-out-then-kind-first c = kept (returns-then-kind-first c)
 
 pub put_field-requires-then-has_number : goal.put_field-requires-then-has_number
 unfolding other_names names_of
@@ -37,10 +29,6 @@ pub returns-then-has_number : goal.returns-then-has_number
 unfolding other_names names_of
 returns-then-has_number c = by (shown-number _ _ _ _ c.if-kind-eq-TEXT.false c.if-kind-first.false c.has_number.ensures c.if-has_number.true) c.put_field-then-has_number.ensures
 
-pub shape_of-out-then-has_number : goal.shape_of-out-then-has_number
-unfolding other_names names_of
-shape_of-out-then-has_number c = kept (returns-then-has_number c)
-
 pub put_name-requires : goal.put_name-requires
 unfolding other_names names_of
 put_name-requires c = record { known = omega (arith, c.requires.known.known); room = room_as (shown-name _ _ _ _ c.if-kind-eq-TEXT.false c.if-kind-first.false c.has_number.ensures c.if-has_number.false) c.requires.room }
@@ -48,7 +36,3 @@ put_name-requires c = record { known = omega (arith, c.requires.known.known); ro
 pub returns : goal.returns
 unfolding other_names names_of
 returns c = by (shown-name _ _ _ _ c.if-kind-eq-TEXT.false c.if-kind-first.false c.has_number.ensures c.if-has_number.false) c.put_name.ensures
-
-pub shape_of-out : goal.shape_of-out
-unfolding other_names names_of
-shape_of-out c = kept (returns c)

@@ -1,5 +1,5 @@
 use Rattle.listing.specs.Shown.{line_at}
-use Rattle.listing.proofs.Writes.{◌▸◌, kept, room-first, ◌⟫◌}
+use Rattle.listing.proofs.Writes.{◌▸◌, room-first, ◌⟫◌}
 use Rattle.listing.proofs.put_line.Goals as goal
 
 pub put_decimal-told-requires : goal.put_decimal-told-requires
@@ -21,7 +21,3 @@ put_byte-requires c = c.requires.room ⟫ c.put_decimal-told.ensures ⟫ c.put_b
 pub returns : goal.returns
 unfolding line_at
 returns c = c.put_decimal-told.ensures ▸ c.put_byte-parted.ensures ▸ c.put_item-shown.ensures ▸ c.put_byte.ensures
-
-pub shape_of-out : goal.shape_of-out
-unfolding line_at
-shape_of-out c = kept (returns c)

@@ -1,5 +1,4 @@
 use Rattle.listing.proofs.Writing.{lines_none, lines_more, lines-all, lines-room}
-use Rattle.listing.proofs.Writes.{kept}
 use Rattle.listing.proofs.put_lines.Goals as goal
 
 pub loop-i-init : goal.loop-i-init
@@ -13,6 +12,3 @@ loop-i-preserved c = lines_more _ _ _ _ c.loop-i.invariant c.loop-i-test.true c.
 
 pub returns : goal.returns
 returns c = lines-all _ _ _ _ c.loop-i.invariant c.loop-i-test.false
-
-pub shape_of-out : goal.shape_of-out
-shape_of-out c = kept (returns c)

@@ -1,7 +1,7 @@
 use borrow.Author.Rules.{rules}
 use Rattle.listing.specs.Shown.{stored_text}
 use Rattle.listing.proofs.Items.{text-part}
-use Rattle.listing.proofs.Writes.{◌▸◌, by, kept, room-first, ◌⟫◌, room_as}
+use Rattle.listing.proofs.Writes.{◌▸◌, by, room-first, ◌⟫◌, room_as}
 use Rattle.items.specs.Lines.{kind_names}
 use Rattle.items.specs.Names.{names_of}
 use Rattle.listing.proofs.put_text.Goals as goal
@@ -21,7 +21,3 @@ put_bytes-requires c = room_as (text-part c.args.texts.now c.args.offset c.args.
 pub returns : goal.returns
 unfolding stored_text
 returns c = c.put_field-told.ensures ▸ c.put_byte-parted.ensures ▸ by (text-part c.args.texts.now c.args.offset c.args.bytes) c.put_bytes.ensures
-
-pub shape_of-out : goal.shape_of-out
-unfolding stored_text kind_names names_of
-shape_of-out c = kept (returns c)

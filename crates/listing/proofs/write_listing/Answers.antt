@@ -1,6 +1,6 @@
 use native.Mathlib.Omega.{arith}
 use Rattle.listing.proofs.Whole.{ready}
-use Rattle.listing.proofs.Writes.{◌▸◌, by, kept, room-first, ◌⟫◌}
+use Rattle.listing.proofs.Writes.{◌▸◌, by, room-first, ◌⟫◌}
 use Rattle.listing.proofs.write_listing.Goals as goal
 
 pub put_head-head-requires : goal.put_head-head-requires
@@ -17,6 +17,3 @@ pub returns : goal.returns
 returns c =
     let e = ready _ _ _ c.requires (omega arith) (omega arith) (omega arith) (omega arith) in
     by e.whole (c.put_head-head.ensures ▸ c.put_lines.ensures)
-
-pub shape_of-out : goal.shape_of-out
-shape_of-out c = kept (returns c)

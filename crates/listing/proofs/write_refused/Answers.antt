@@ -3,7 +3,7 @@ use native.Mathlib.Omega.{arith}
 use Rattle.listing.specs.Listing.{refused_line}
 use Rattle.listing.proofs.Refused.{refused-short}
 use Rattle.listing.specs.Writes.{Room}
-use Rattle.listing.proofs.Writes.{◌▸◌, kept, room-first, ◌⟫◌}
+use Rattle.listing.proofs.Writes.{◌▸◌, room-first, ◌⟫◌}
 use Rattle.listing.proofs.write_refused.Goals as goal
 
 room : (n e : ℕ) → n < 2 ^ 64 → e < 2 ^ 64 → Room (refused_line n e) 0
@@ -28,7 +28,3 @@ put_byte-requires c = room c.args.number c.args.element (omega arith) (omega ari
 pub returns : goal.returns
 unfolding refused_line
 returns c = c.put_bytes-named.ensures ▸ c.put_decimal-numbered.ensures ▸ c.put_byte-parted.ensures ▸ c.put_decimal-told.ensures ▸ c.put_byte.ensures
-
-pub shape_of-out : goal.shape_of-out
-unfolding refused_line
-shape_of-out c = kept (returns c)

@@ -17,17 +17,14 @@ trivia_before-before-requires c = ends-has (root_at c.requires) c.first_in-a.ens
 pub trivia_after-after-requires : goal.trivia_after-after-requires
 trivia_after-after-requires c = ends-has (root_at c.requires) c.first_in-a.ensures c.end_at-b.ensures (first-has _ _ c.first_of-e.ensures) (none_has _ refl)
 
-pub returns-in-At : goal.returns-in-At
-returns-in-At c = by (source-before c.requires c.first_in-a.ensures c.end_at-b.ensures c.first_of-e.ensures _ _ c.trivia_before-before.ensures c.trivia_after-after.ensures (ap found c.in-At.is)) (c.stop_at.ensures _ _)
+pub returns-in-Some : goal.returns-in-Some
+returns-in-Some c = by (source-before c.requires c.first_in-a.ensures c.end_at-b.ensures c.first_of-e.ensures _ _ c.trivia_before-before.ensures c.trivia_after-after.ensures (ap found c.in-Some.is)) (c.stop_at.ensures.plans _)
 
-pub returns-in-At-g : goal.returns-in-At-g
-returns-in-At-g c = by (source-behind c.requires c.first_in-a.ensures c.end_at-b.ensures c.first_of-e.ensures _ _ c.trivia_before-before.ensures c.trivia_after-after.ensures (ap found c.in_default.is) (ap found c.in-At-g.is)) (c.stop_at-in-At-g.ensures _ _)
+pub returns-in-Some-g : goal.returns-in-Some-g
+returns-in-Some-g c = by (source-behind c.requires c.first_in-a.ensures c.end_at-b.ensures c.first_of-e.ensures _ _ c.trivia_before-before.ensures c.trivia_after-after.ensures (ap found c.in_default.is) (ap found c.in-Some-g.is)) (c.stop_at-in-Some-g.ensures.plans _)
 
 pub plan_whole-requires : goal.plan_whole-requires
 plan_whole-requires c = record { at = root_at c.requires; has = first-has _ _ c.first_of-e.ensures; region = before-region c.requires c.first_in-a.ensures c.end_at-b.ensures c.first_of-e.ensures _ _ c.trivia_before-before.ensures c.trivia_after-after.ensures; region_2 = after-region c.requires c.first_in-a.ensures c.end_at-b.ensures c.first_of-e.ensures _ _ c.trivia_before-before.ensures c.trivia_after-after.ensures }
 
 pub returns : goal.returns
 returns c = by (source-whole c.requires c.first_in-a.ensures c.end_at-b.ensures c.first_of-e.ensures _ _ c.trivia_before-before.ensures c.trivia_after-after.ensures (ap found c.in_default.is) (ap found c.in_default-g.is)) c.plan_whole.ensures
-
-pub shape_of-ops : goal.shape_of-ops
-shape_of-ops c = (returns c).same_ops

@@ -15,6 +15,3 @@ plan_notes-requires-2 c = c.requires.region_2
 pub returns : goal.returns
 unfolding words word_or_none
 returns c = c.plan_notes.ensures ▸ c.part.ensures ▸ c.plan_signal.ensures _ ▸ c.plan_notes-2.ensures
-
-pub shape_of-ops : goal.shape_of-ops
-shape_of-ops c = (returns c).same_ops

@@ -1,21 +1,13 @@
-use Rattle.std.proofs.Common.{refl, sym, ◌∙◌}
-use Rattle.std.proofs.lemmas.Slice.Eq.{bytes_eq-Decides}
-use mathlib.Core.Bool.{false≢true}
-use Rattle.formatter.proofs.Responses.{front}
+use Rattle.std.proofs.Common.{sym, ap, ◌∙◌}
+use Rattle.formatter.specs.Program.{number_told}
+use Rattle.vectors.proofs.Telling.{differing, agreeing}
 use Rattle.vectors.proofs.replied.Goals as goal
 
-pub returns-then-eq : goal.returns-then-eq
-returns-then-eq c =
-    let r = c.respond-r.ensures in
-    record {
-      agrees = λ h. r.number;
-      differs = λ n. absurd (n (sym (front r) ∙ (bytes_eq-Decides _ _).0 (sym c.eq.ensures ∙ c.if-eq.true)));
-    }
+pub returns-then-ne : goal.returns-then-ne
+returns-then-ne c = differing c.respond-r.ensures c.ne.ensures c.if-ne.true
 
-pub returns-else-eq : goal.returns-else-eq
-returns-else-eq c =
-    let r = c.respond-r.ensures in
-    record {
-      agrees = λ h. absurd (false≢true (sym c.if-eq.false ∙ (c.eq.ensures ∙ (bytes_eq-Decides _ _).1 (front r ∙ h))));
-      differs = λ n. refl;
-    }
+pub returns-in-None : goal.returns-in-None
+returns-in-None c = agreeing c.respond-r.ensures c.ne.ensures c.if-ne.false (sym (ap number_told c.in-None.is))
+
+pub returns-in-Some : goal.returns-in-Some
+returns-in-Some c = agreeing c.respond-r.ensures c.ne.ensures c.if-ne.false (c.from.ensures ∙ sym (ap number_told c.in-Some.is))

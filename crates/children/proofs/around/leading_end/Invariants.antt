@@ -5,7 +5,7 @@ use Rattle.children.proofs.Arounds.{Heading}
 use Rattle.children.proofs.around.leading_end.Given as goal
 
 abbrev pub invariant-loop-j : goal.invariant-loop-j
-invariant-loop-j l = (Heading l.index l.image l.a l.b l.j) × (l.w ≡ notes)
+invariant-loop-j l = (Heading l.tree.index l.tree.image l.a l.b l.j) × (l.w ≡ notes)
 
 abbrev pub decreases-loop-j : goal.decreases-loop-j
 decreases-loop-j l = l.b - l.j

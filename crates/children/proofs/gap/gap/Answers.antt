@@ -1,22 +1,27 @@
 use native.Mathlib.Omega.{arith}
 use Rattle.children.proofs.Turns.{space-none}
-use Rattle.children.proofs.Spanning.{spanning_none, spanning-fits, spanning-more, spanning-stop, spanning_all, spanning_less}
+use Rattle.children.proofs.Spanning.{spanning_none, spanning-fits, spanning-more, spanning-stop, spanning_all}
+use Rattle.std.specs.Prelude.{◌≡◌, cond}
 use Rattle.children.proofs.gap.gap.Goals as goal
+use Rattle.children.proofs.gap.gap.Goals.{then-follows, else-follows}
 
 pub loop-j-init : goal.loop-j-init
 loop-j-init c = search spanning_none
 
-pub returns-then-t-ge-STOP : goal.returns-then-t-ge-STOP
-returns-then-t-ge-STOP c = search spanning-stop
+pub returns-in-Break : goal.returns-in-Break
+returns-in-Break c = search spanning-stop
 
-pub tallied-tally-requires : goal.tallied-tally-requires
-tallied-tally-requires c = record { f_bound = omega (arith, spanning-fits c.loop-j.invariant c.loop-j-test.true _ c.space_of-f.ensures, c.well_formed); f_value = space-none _ _ _ _ _ c.space_of-f.ensures c.kind_at.ensures }
+pub with-tally-requires-clause-f_bound : goal.with-tally-requires-clause-f_bound
+with-tally-requires-clause-f_bound c = omega (arith, spanning-fits c.loop-j.invariant c.loop-j-test.true _ c.space_of-f.ensures, c.well_formed)
 
-pub loop-j-smaller : goal.loop-j-smaller
-loop-j-smaller c = search spanning_less
+pub with-tally-requires-clause-f_value : goal.with-tally-requires-clause-f_value
+with-tally-requires-clause-f_value c = space-none _ _ _ _ _ c.space_of-f.ensures c.kind_at.ensures
 
 pub loop-j-preserved : goal.loop-j-preserved
-loop-j-preserved c = search spanning-more
+loop-j-preserved c =
+    let a = c.loop-j in
+    let p : c.if-follows.cut ≡ cond c.follows-follows.result c.end_at-next.result a.cut = elim c.if-follows.branch [ then-follows w ↦ rw (w.if-follows.true, w.cut-is) | else-follows w ↦ rw (w.if-follows.false, w.cut-is) ] in
+    search (spanning-more, p)
 
 pub returns : goal.returns
 returns c = search spanning_all

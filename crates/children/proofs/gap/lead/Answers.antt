@@ -1,19 +1,19 @@
 use native.Mathlib.Omega.{arith}
 use Rattle.children.proofs.Turns.{space-none}
-use Rattle.children.proofs.Leading.{leading-none, leading-fits, leading-more, leading-stop, leading-all, leading-less}
+use Rattle.children.proofs.Leading.{leading-none, leading-fits, leading-more, leading-stop, leading-all}
 use Rattle.children.proofs.gap.lead.Goals as goal
 
 pub loop-j-init : goal.loop-j-init
 loop-j-init c = search leading-none
 
-pub returns-then-t-ge-STOP : goal.returns-then-t-ge-STOP
-returns-then-t-ge-STOP c = search leading-stop
+pub returns-in-Break : goal.returns-in-Break
+returns-in-Break c = search leading-stop
 
-pub tallied-tally-requires : goal.tallied-tally-requires
-tallied-tally-requires c = record { f_bound = omega (arith, leading-fits c.loop-j.invariant c.loop-j-test.true _ c.space_of-f.ensures, c.well_formed); f_value = space-none _ _ _ _ _ c.space_of-f.ensures c.kind_at.ensures }
+pub with-tally-requires-clause-f_bound : goal.with-tally-requires-clause-f_bound
+with-tally-requires-clause-f_bound c = omega (arith, leading-fits c.loop-j.invariant c.loop-j-test.true _ c.space_of-f.ensures, c.well_formed)
 
-pub loop-j-smaller : goal.loop-j-smaller
-loop-j-smaller c = search leading-less
+pub with-tally-requires-clause-f_value : goal.with-tally-requires-clause-f_value
+with-tally-requires-clause-f_value c = space-none _ _ _ _ _ c.space_of-f.ensures c.kind_at.ensures
 
 pub loop-j-preserved : goal.loop-j-preserved
 loop-j-preserved c = search leading-more

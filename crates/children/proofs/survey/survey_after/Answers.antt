@@ -1,4 +1,4 @@
-use Rattle.children.proofs.Surveying.{after-stopped, after-alone, after-barred, after-region, after-start, after-whole}
+use Rattle.children.proofs.Surveying.{after-stopped, after-alone, after-barred, after-start, after-whole}
 use mathlib.Core.Path.{ap}
 use mathlib.Core.Bool.{not}
 use Rattle.children.proofs.survey.survey_after.Goals as goal
@@ -11,9 +11,6 @@ returns-then-not-at_child c = search after-alone
 
 pub returns-then-not-nothing_waits : goal.returns-then-not-nothing_waits
 returns-then-not-nothing_waits c = search after-barred
-
-pub gap-next-requires : goal.gap-next-requires
-gap-next-requires c = after-region c.lead-first.ensures c.args.t c.at_child.ensures (ap not c.if-not-at_child.false) c.nothing_waits.ensures c.end_at.ensures
 
 pub survey_from-requires : goal.survey_from-requires
 survey_from-requires c = after-start c.lead-first.ensures c.args.t c.at_child.ensures (ap not c.if-not-at_child.false) c.nothing_waits.ensures c.end_at.ensures c.gap-next.ensures

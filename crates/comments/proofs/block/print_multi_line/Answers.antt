@@ -22,9 +22,3 @@ print_block-requires c =
 
 pub returns : goal.returns
 returns c = same (multi-some _ _ _ _ _ c.inside-body.ensures c.starts_with-doc.ensures c.after_star.ensures _ _ _ c.trim_end-rest.ensures c.if-rest-eq0.false c.first_row-first.ensures.first_row c.behind.ensures) c.print_block.ensures
-
-pub shape_of-records : goal.shape_of-records
-shape_of-records c = (returns c).same_records
-
-pub shape_of-texts : goal.shape_of-texts
-shape_of-texts c = (returns c).same_texts

@@ -1,11 +1,11 @@
-use Prim.Native.Nat.{◌-◌}
 use lib.ListN.{length}
-use Rattle.items.specs.Machine.{held}
-use Rattle.comments.proofs.Said.{Tabbing}
+use Rattle.items.proofs.Laws.{Going}
+use Rattle.comments.specs.Comments.{tabbed}
 use Rattle.comments.proofs.block.print_tabbed.Given as goal
 
-abbrev pub invariant-loop-i : goal.invariant-loop-i
-invariant-loop-i l = Tabbing l.doc l.l (held l.initial.records l.initial.texts l.initial.q) (held l.records l.texts l.q) l.i
+-- the tabs before the rest are printed
+abbrev pub invariant-loop-rest : goal.invariant-loop-rest
+invariant-loop-rest l = Going (tabbed l.doc l.l) (tabbed l.doc l.rest) l.initial.out l.out
 
-abbrev pub decreases-loop-i : goal.decreases-loop-i
-decreases-loop-i l = length l.l - l.i
+abbrev pub decreases-loop-rest : goal.decreases-loop-rest
+decreases-loop-rest l = length l.rest

@@ -1,36 +1,21 @@
-use native.Mathlib.Omega.{arith}
-use Rattle.comments.proofs.Said.{erring_none, erring_more, erring-last, erring-all}
+use Rattle.std.proofs.Common.{◌≡◌, sym, ◌∙◌, rules, tests}
+use borrow.Author.Tests.{eqb-true, eqb-false}
+use Rattle.std.specs.List.{position}
+use Rattle.std.proofs.lemmas.Iterator.{YieldsList-from_slice}
+use Rattle.std.proofs.lemmas.Iterator.Search.{position_from_yields_List}
+use Rattle.comments.specs.Rows.{is_cut}
+use Rattle.comments.proofs.Said.{pieces-more, pieces-last, pieces-all}
 use Rattle.comments.proofs.plain.print_error.Goals as goal
 
-pub loop-end-init : goal.loop-end-init
-loop-end-init c = search erring_none
-
-pub slice_bounds-print_piece-count : goal.slice_bounds-print_piece-count
-slice_bounds-print_piece-count c = omega (arith, c.loop-end.invariant.piece)
-
-pub slice_bounds-print_piece-start : goal.slice_bounds-print_piece-start
-slice_bounds-print_piece-start c = omega (arith, c.loop-end.invariant.piece)
-
-pub slice_bounds-print_piece-end : goal.slice_bounds-print_piece-end
-slice_bounds-print_piece-end c = omega (arith, c.loop-end.invariant.piece)
-
 pub loop-end-preserved : goal.loop-end-preserved
-loop-end-preserved c = search erring_more
+loop-end-preserved c =
+    let found : c.position.result ≡ position is_cut c.loop-end.rest.now = position_from_yields_List is_cut _ _ c.position.result c.position.ensures.ran (YieldsList-from_slice _ c.iter.ensures.rest) (λ x b q k. search (rules, tests)) in
+    pieces-more _ c.loop-end.invariant _ (sym c.in-Some.is ∙ found) c.print_piece.ensures
 
-pub returns-then-at-s : goal.returns-then-at-s
-returns-then-at-s c = search erring-last
+pub returns-else-not-is_empty : goal.returns-else-not-is_empty
+returns-else-not-is_empty c = pieces-all _ c.loop-end.invariant (eqb-true _ _ (sym c.is_empty.ensures ∙ c.if-not-is_empty.false))
 
-pub shape_of-records-then-at-s : goal.shape_of-records-then-at-s
-shape_of-records-then-at-s c = (returns-then-at-s c).same_records
-
-pub shape_of-texts-then-at-s : goal.shape_of-texts-then-at-s
-shape_of-texts-then-at-s c = (returns-then-at-s c).same_texts
-
-pub returns-else-at-s : goal.returns-else-at-s
-returns-else-at-s c = search erring-all
-
-pub shape_of-records-else-at-s : goal.shape_of-records-else-at-s
-shape_of-records-else-at-s c = (returns-else-at-s c).same_records
-
-pub shape_of-texts-else-at-s : goal.shape_of-texts-else-at-s
-shape_of-texts-else-at-s c = (returns-else-at-s c).same_texts
+pub returns-then-not-is_empty : goal.returns-then-not-is_empty
+returns-then-not-is_empty c =
+    let found : c.position.result ≡ position is_cut c.loop-end.rest.now = position_from_yields_List is_cut _ _ c.position.result c.position.ensures.ran (YieldsList-from_slice _ c.iter.ensures.rest) (λ x b q k. search (rules, tests)) in
+    pieces-last _ c.loop-end.invariant (sym c.in_default.is ∙ found) (eqb-false _ _ (sym c.is_empty.ensures ∙ c.if-not-is_empty.true)) c.print_text.ensures

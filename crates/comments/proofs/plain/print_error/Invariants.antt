@@ -1,11 +1,12 @@
-use Prim.Native.Nat.{suc, ◌-◌}
 use lib.ListN.{length}
-use Rattle.items.specs.Machine.{held}
-use Rattle.comments.proofs.Said.{Erring}
+use mathlib.Core.List.{[]}
+use Rattle.items.proofs.Laws.{Going}
+use Rattle.comments.specs.Comments.{error_items}
 use Rattle.comments.proofs.plain.print_error.Given as goal
 
+-- the pieces before the rest are printed
 abbrev pub invariant-loop-end : goal.invariant-loop-end
-invariant-loop-end l = Erring l.s (held l.initial.records l.initial.texts l.initial.q) (held l.records l.texts l.q) l.at l.end
+invariant-loop-end l = Going (error_items [] l.s) (error_items [] l.rest) l.initial.out l.out
 
 abbrev pub decreases-loop-end : goal.decreases-loop-end
-decreases-loop-end l = suc (length l.s) - l.end
+decreases-loop-end l = length l.rest

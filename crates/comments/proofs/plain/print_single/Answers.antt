@@ -5,10 +5,4 @@ use Rattle.comments.proofs.plain.print_single.Goals as goal
 
 pub returns : goal.returns
 unfolding single_line
-returns c = c.print_lead-a.ensures ▸▸ c.print_text-b.ensures ▸▸ texts c.trim.ensures c.print_text-c.ensures ▸▸ c.print_end.ensures
-
-pub shape_of-records : goal.shape_of-records
-shape_of-records c = (returns c).same_records
-
-pub shape_of-texts : goal.shape_of-texts
-shape_of-texts c = (returns c).same_texts
+returns c = c.print_lead.ensures ▸▸ c.print_text.ensures ▸▸ texts c.trim.ensures c.print_text-2.ensures ▸▸ c.print_end.ensures

@@ -1,5 +1,3 @@
-use mathlib.Core.Path.{sym}
-use lib.Seq.{length-take-le}
 use Rattle.comments.proofs.Walks.{row-less, padding-none, padding-more, padding-blank, padding_spent, padding-all}
 use Rattle.comments.proofs.rows.common_length.Goals as goal
 
@@ -8,9 +6,6 @@ loop-j-init c = search padding-none
 
 pub returns-then-n-eq0 : goal.returns-then-n-eq0
 returns-then-n-eq0 c = search padding_spent
-
-pub slice_bounds-common_ws_prefix-end : goal.slice_bounds-common_ws_prefix-end
-slice_bounds-common_ws_prefix-end c = sym (length-take-le _ _ c.loop-j.invariant.within)
 
 pub loop-j-smaller-then-l-gt0 : goal.loop-j-smaller-then-l-gt0
 loop-j-smaller-then-l-gt0 c = search row-less

@@ -1,9 +1,6 @@
 use native.Mathlib.Omega.{arith}
-use Rattle.comments.proofs.Walks.{row-less, skipping_none, skipping-more, skipping-stop, skipping_all}
+use Rattle.comments.proofs.Walks.{row-less, skipping-more, skipping-stop, skipping_all}
 use Rattle.comments.proofs.rows.first_row.Goals as goal
-
-pub loop-i-init : goal.loop-i-init
-loop-i-init c = search skipping_none
 
 pub returns-then-l-gt0 : goal.returns-then-l-gt0
 returns-then-l-gt0 c = record { first_row = skipping-stop c.loop-i.invariant c.loop-i-test.true c.row-l.ensures c.if-l-gt0.true; next_value = λ h. c.next_row-next.ensures }

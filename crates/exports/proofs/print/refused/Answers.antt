@@ -5,4 +5,4 @@ use Rattle.exports.proofs.print.refused.Goals as goal
 
 pub returns : goal.returns
 unfolding number values values_listed
-returns c = by_number _ _ c.args.f c.number_of.ensures (record { answered = refl; valued = refl; listed = refl })
+returns c = by_number _ _ c.args.f c.from.ensures (record { answered = refl; valued = refl; listed = refl })

@@ -3,10 +3,10 @@ use Rattle.exports.specs.Print.{number, values, values_listed}
 use Rattle.exports.proofs.Answers.{by_case}
 use Rattle.exports.proofs.print.report_of.Goals as goal
 
-pub returns-in-Refused : goal.returns-in-Refused
+pub returns-in-Err : goal.returns-in-Err
 unfolding number values values_listed
-returns-in-Refused c = search by_case
+returns-in-Err c = search by_case
 
-pub returns-in-Printed : goal.returns-in-Printed
+pub returns-in-Ok : goal.returns-in-Ok
 unfolding number values values_listed
-returns-in-Printed c = by_case _ _ _ c.in-Printed.is (record { answered = refl; valued = refl; listed = refl })
+returns-in-Ok c = by_case _ _ _ c.in-Ok.is (record { answered = refl; valued = refl; listed = refl })

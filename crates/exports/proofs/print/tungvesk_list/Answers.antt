@@ -5,12 +5,12 @@ use Rattle.exports.proofs.print.tungvesk_list.Goals as goal
 
 pub returns-in_default : goal.returns-in_default
 unfolding by_mode
-returns-in_default c = rw (unknown c.mode_with-chosen.ensures c.in_default.is) (record { value = refl; counts_after = refl; records_after = refl; texts_after = refl; listing_after = refl })
+returns-in_default c = rw (unknown c.try_from.ensures c.in_default.is) (record { value = refl; counts_after = refl; records_after = refl; texts_after = refl; listing_after = refl })
 
 pub returns : goal.returns
 unfolding by_mode
 returns c =
-    let e = known c.mode_with-chosen.ensures c.in-Known.is in
+    let e = known c.try_from.ensures c.in-Ok.is in
     rw (e, ← c.list_items.ensures.result_value, ← c.report_listed-l.ensures.answered, ← c.report_listed-l.ensures.listed)
     (record {
       value = refl;

@@ -5,11 +5,11 @@ use Rattle.exports.proofs.print.tungvesk_print.Goals as goal
 
 pub returns-in_default : goal.returns-in_default
 unfolding by_mode
-returns-in_default c = rw (unknown c.mode_with-chosen.ensures c.in_default.is) (record { value = refl; counts_after = refl; records_after = refl; texts_after = refl })
+returns-in_default c = rw (unknown c.try_from.ensures c.in_default.is) (record { value = refl; counts_after = refl; records_after = refl; texts_after = refl })
 
 pub returns : goal.returns
 unfolding by_mode
 returns c =
-    let e = known c.mode_with-chosen.ensures c.in-Known.is in
+    let e = known c.try_from.ensures c.in-Ok.is in
     rw (e, ← c.print_items.ensures.result_value, ← c.report_of-r.ensures.answered, ← c.report_of-r.ensures.valued)
     (record { value = refl; counts_after = refl; records_after = c.print_items.ensures.records_after; texts_after = c.print_items.ensures.texts_after })

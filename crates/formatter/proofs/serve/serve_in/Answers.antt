@@ -1,15 +1,16 @@
-use native.Mathlib.Omega.{arith}
-use Rattle.formatter.proofs.Calls.{stops, answered-by, filled-by}
+use mathlib.Core.Path.{ap, ◌∙◌}
+use Rattle.std.specs.declared.result.Result.TheVariants.{Err}
+use Rattle.formatter.proofs.Calls.{stops, answered-by}
 use Rattle.formatter.proofs.serve.serve_in.Goals as goal
 
+pub index-requires : goal.index-requires
+index-requires c =
+    let r = c.requires in record { passed = r.passed; room = r.tabled }
+
 pub serve_planned-requires : goal.serve_planned-requires
-serve_planned-requires c = c.plan_image-outlook.ensures.prints _ c.in-Prints.is
+serve_planned-requires c = c.plan_tree.ensures.prints _ c.in-Ok.is
 
-pub returns-in-Stops : goal.returns-in-Stops
-returns-in-Stops c = answered-by (stops _ _ _ _ _ _ (c.plan_image-outlook.ensures.stops _ c.in-Stops.is))
-
-pub returns-in-Prints : goal.returns-in-Prints
-returns-in-Prints c = answered-by c.serve_planned.ensures
-
-pub returns-in-Full : goal.returns-in-Full
-returns-in-Full c = filled-by (λ l. c.plan_image-outlook.ensures.fills c.in-Full.is (omega (arith, l, c.plan_image-outlook.auto.ops)))
+pub returns-in-Err-Stopped : goal.returns-in-Err-Stopped
+returns-in-Err-Stopped c =
+    let e = c.in-Err-Stopped in
+    rw e.element-is (answered-by (stops _ _ _ _ _ _ (c.plan_tree.ensures.stops _ (e.is ∙ ap Err e.field-0-is))))

@@ -1,12 +1,12 @@
 use native.Mathlib.Omega.{arith}
-use Rattle.formatter.proofs.Calls.{after-full}
+use Rattle.formatter.proofs.Calls.{answering, after-full}
 use Rattle.formatter.proofs.serve.serve_passed.Goals as goal
 
-pub returns-in-Answered : goal.returns-in-Answered
-returns-in-Answered c = c.attempt_sized-a.ensures.answers _ c.in-Answered.is
+pub returns-in-Some : goal.returns-in-Some
+returns-in-Some c = c.attempt_sized.ensures.answers _ c.in-Some.is
 
-pub returns-in_default-b : goal.returns-in_default-b
-returns-in_default-b c = absurd ((c.attempt_sized-b.ensures.fills c.in_default-b.is).0 (omega arith))
+pub unwrap-requires : goal.unwrap-requires
+unwrap-requires c = answering _ c.attempt_sized-2.ensures (omega arith)
 
 pub returns : goal.returns
-returns c = after-full c.attempt_sized-a.ensures c.in_default.is (c.attempt_sized-b.ensures.answers _ c.in-Answered-b.is)
+returns c = after-full c.attempt_sized.ensures c.in_default.is (c.attempt_sized-2.ensures.answers _ c.unwrap.ensures)

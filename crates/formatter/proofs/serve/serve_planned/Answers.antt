@@ -1,4 +1,6 @@
 use mathlib.Core.Bool.{false}
+use mathlib.Core.Path.{ap}
+use Rattle.tree.specs.Source.{Source}
 use Rattle.formatter.proofs.Calls.{plan-fits, marks-fit, prints-ample, lacking, tells, prints, lists}
 use Rattle.formatter.proofs.serve.serve_planned.Goals as goal
 
@@ -10,12 +12,8 @@ write_ops-p-requires c =
 pub counts_with-requires : goal.counts_with-requires
 counts_with-requires c = marks-fit c.requires
 
--- dropped? same-length: λ c. (puts-same c.before.before.before.before.before.write-ops.ensures).0
-
--- dropped? same-length-2: λ c. (puts-same c.before.before.before.before.before.write-ops.ensures).1
-
 pub returns-then-listed-is_ample : goal.returns-then-listed-is_ample
-returns-then-listed-is_ample c = prints-ample _ _ c.write_ops-p.result c.requires c.is_ample.ensures c.if-listed-is_ample.true c.write_ops-p.ensures c.counts_with.ensures _
+returns-then-listed-is_ample c = prints-ample _ _ c.write_ops-p.result c.requires (rw (ap Source.image c.tree.view_is) at c.is_ample.ensures) c.if-listed-is_ample.true c.write_ops-p.ensures c.counts_with.ensures _
 
 pub count_ops-p-requires : goal.count_ops-p-requires
 count_ops-p-requires c = record { n_in_bounds = c.requires.within; listed_value = plan-fits c.requires c.args.wanted.listed }
@@ -23,8 +21,8 @@ count_ops-p-requires c = record { n_in_bounds = c.requires.within; listed_value 
 pub counts_with-counts-requires : goal.counts_with-counts-requires
 counts_with-counts-requires c = marks-fit c.requires
 
-pub returns-in-Short : goal.returns-in-Short
-returns-in-Short c = rw c.whole.ensures (lacking _ _ _ c.args.wanted.listed c.count_ops-p.result c.requires c.count_ops-p.ensures c.counts_with-counts.ensures c.listing_length-bytes.ensures c.fit-f.ensures c.in-Short.is)
+pub returns-in_err-fit : goal.returns-in_err-fit
+returns-in_err-fit c = lacking _ _ _ c.args.wanted.listed c.count_ops-p.result c.requires c.count_ops-p.ensures c.counts_with-counts.ensures c.listing_length-bytes.ensures c.fit.ensures c.in_err-fit.was _ c.from_residual.ensures.1
 
 pub write_ops-requires : goal.write_ops-requires
 write_ops-requires c =
@@ -32,18 +30,10 @@ write_ops-requires c =
     record { n_in_bounds = w.within; false_value = plan-fits w false }
 
 pub write_listing-requires : goal.write_listing-requires
-write_listing-requires c = tells _ _ c.args.listing.now c.args.wanted.listed c.count_ops-p.result c.requires c.count_ops-p.ensures c.counts_with-counts.ensures c.listing_length-bytes.ensures c.fit-f.ensures c.in_default.is c.write_ops.ensures
-
--- dropped? same-length-3: λ c. (puts-same c.before.before.before.before.before.before.before.before.before.before.before.write-ops2.ensures).0
-
--- dropped? same-length-4: λ c. (puts-same c.before.before.before.before.before.before.before.before.before.before.before.write-ops2.ensures).1
+write_listing-requires c = tells _ _ c.args.listing.now c.args.wanted.listed c.count_ops-p.result c.requires c.count_ops-p.ensures c.counts_with-counts.ensures c.listing_length-bytes.ensures c.fit.ensures c.in_ok-fit.was c.write_ops.ensures
 
 pub returns-then-listed : goal.returns-then-listed
-returns-then-listed c = lists _ _ _ c.args.wanted.listed c.count_ops-p.result c.requires c.count_ops-p.ensures c.counts_with-counts.ensures c.listing_length-bytes.ensures c.fit-f.ensures c.in_default.is c.write_ops.ensures c.if-listed.true c.write_listing.ensures
-
--- dropped? same-length-6: λ c. (puts-same c.before.before.before.before.before.write-ops2.ensures).0
-
--- dropped? same-length-7: λ c. (puts-same c.before.before.before.before.before.write-ops2.ensures).1
+returns-then-listed c = lists _ _ _ c.args.wanted.listed c.count_ops-p.result c.requires c.count_ops-p.ensures c.counts_with-counts.ensures c.listing_length-bytes.ensures c.fit.ensures c.in_ok-fit.was c.write_ops.ensures c.if-listed.true c.write_listing.ensures
 
 pub returns-else-listed : goal.returns-else-listed
-returns-else-listed c = prints _ _ _ c.args.wanted.listed c.count_ops-p.result c.requires c.count_ops-p.ensures c.counts_with-counts.ensures c.listing_length-bytes.ensures c.fit-f.ensures c.in_default.is c.write_ops.ensures c.if-listed.false
+returns-else-listed c = prints _ _ _ c.args.wanted.listed c.count_ops-p.result c.requires c.count_ops-p.ensures c.counts_with-counts.ensures c.listing_length-bytes.ensures c.fit.ensures c.in_ok-fit.was c.write_ops.ensures c.if-listed.false

@@ -1,21 +1,10 @@
+use mathlib.Core.Path.{sym}
+use Rattle.items.proofs.Decimals.{one-long, digits-by_power}
 use native.Mathlib.Omega.{arith}
-use Rattle.items.proofs.Decimals.{four_shorter, decimal-short}
 use Rattle.items.proofs.lines.decimal_length.Goals as goal
 
-pub loop-rest-init : goal.loop-rest-init
-loop-rest-init c = omega arith
+pub returns-in-Some : goal.returns-in-Some
+returns-in-Some c = digits-by_power _ _ c.in-Some.ensures.power_le c.in-Some.ensures.next_power_gt
 
-pub overflow_add-digits : goal.overflow_add-digits
-overflow_add-digits c = omega (arith, decimal-short c.args.n (omega arith), c.loop-rest.invariant)
-
-pub loop-rest-smaller : goal.loop-rest-smaller
-loop-rest-smaller c = omega arith
-
-pub loop-rest-preserved : goal.loop-rest-preserved
-loop-rest-preserved c = omega (arith, four_shorter _ c.loop-rest-test.true, c.loop-rest.invariant)
-
-pub overflow_add-result : goal.overflow_add-result
-overflow_add-result c = omega (arith, decimal-short c.args.n (omega arith), c.loop-rest.invariant, c.few_digits.ensures)
-
-pub returns : goal.returns
-returns c = omega (arith, c.loop-rest.invariant, c.few_digits.ensures)
+pub returns-in-None : goal.returns-in-None
+returns-in-None c = sym (one-long _ (omega (arith, c.in-None.ensures.none)))

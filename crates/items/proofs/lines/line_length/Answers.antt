@@ -10,6 +10,3 @@ overflow_add-result c =
 pub overflow_add-result-2 : goal.overflow_add-result-2
 overflow_add-result-2 c =
     let s = c.args in omega (arith, c.described_length.ensures, c.decimal_length.ensures, decimal-short s.n (omega arith), described-small s.kind s.first s.second (omega arith) (omega arith))
-
-pub returns : goal.returns
-returns c = omega (arith, c.described_length.ensures, c.decimal_length.ensures)

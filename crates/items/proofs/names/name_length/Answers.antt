@@ -1,8 +1,6 @@
-use Rattle.items.proofs.Lengths.{of_table}
+use native.Mathlib.Omega.{arith}
+use Rattle.items.proofs.Lengths.{length-at}
 use Rattle.items.proofs.names.name_length.Goals as goal
 
-pub returns-in-Kinds : goal.returns-in-Kinds
-returns-in-Kinds c = of_table _ _ _ c.in-Kinds.is c.kind_length.ensures
-
-pub returns-in-Others : goal.returns-in-Others
-returns-in-Others c = of_table _ _ _ c.in-Others.is c.other_length.ensures
+pub returns : goal.returns
+returns c = rw (c.unwrap_or.ensures, c.copied.ensures, c.get.ensures.lookup.4 (omega arith) 0, c.lengths.ensures) (length-at c.args.t c.args.w)

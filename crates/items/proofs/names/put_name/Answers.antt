@@ -1,16 +1,25 @@
-use Rattle.items.proofs.Naming.{known_as, room_as, stored-as}
+use native.Mathlib.Omega.{arith}
+use Rattle.text.proofs.Words.{start_le, end-in, word-part}
+use Rattle.items.specs.Names.{name_at}
+use Rattle.items.proofs.Naming.{names-few, part_room, part-stored}
 use Rattle.items.proofs.names.put_name.Goals as goal
 
-pub put_kind-requires : goal.put_kind-requires
-put_kind-requires c =
-    let h = c.in-Kinds.is in record { w_in_bounds = known_as h _ c.requires.w_in_bounds; w_bound = room_as h _ _ c.requires.w_bound }
+pub overflow_add-w : goal.overflow_add-w
+overflow_add-w c = omega (arith, names-few c.args.t, c.requires.w_in_bounds)
 
-pub put_other-requires : goal.put_other-requires
-put_other-requires c =
-    let h = c.in-Others.is in record { w_in_bounds = known_as h _ c.requires.w_in_bounds; w_bound = room_as h _ _ c.requires.w_bound }
+pub slice_bounds-put_bytes-count : goal.slice_bounds-put_bytes-count
+slice_bounds-put_bytes-count c = start_le _ _ c.requires.w_in_bounds c.start_of-start.ensures c.start_of-end.ensures
 
-pub returns-in-Kinds : goal.returns-in-Kinds
-returns-in-Kinds c = stored-as c.in-Kinds.is _ _ _ _ c.put_kind.ensures
+pub slice_bounds-put_bytes-start : goal.slice_bounds-put_bytes-start
+slice_bounds-put_bytes-start c = start_le _ _ c.requires.w_in_bounds c.start_of-start.ensures c.start_of-end.ensures
 
-pub returns-in-Others : goal.returns-in-Others
-returns-in-Others c = stored-as c.in-Others.is _ _ _ _ c.put_other.ensures
+pub slice_bounds-put_bytes-end : goal.slice_bounds-put_bytes-end
+slice_bounds-put_bytes-end c = rw c.joined.ensures (end-in _ _ c.requires.w_in_bounds c.start_of-start.ensures c.start_of-end.ensures)
+
+pub put_bytes-requires : goal.put_bytes-requires
+unfolding name_at
+put_bytes-requires c = rw c.joined.ensures (part_room (word-part _ _ c.requires.w_in_bounds c.start_of-start.ensures c.start_of-end.ensures) _ c.requires.w_bound)
+
+pub returns : goal.returns
+unfolding name_at
+returns c = part-stored (word-part _ _ c.requires.w_in_bounds c.start_of-start.ensures c.start_of-end.ensures) _ _ _ (rw c.joined.ensures at c.put_bytes.ensures)

@@ -15,8 +15,8 @@ bounds-at-in-Others c = others-in c.in-Others.is _ c.requires
 
 pub returns-in-Kinds : goal.returns-in-Kinds
 unfolding kind_names flatten
-returns-in-Kinds c = c.from_u8.ensures ∙ kinds-start c.in-Kinds.is _ c.requires
+returns-in-Kinds c = c.from.ensures ∙ kinds-start c.in-Kinds.is _ c.requires
 
 pub returns-in-Others : goal.returns-in-Others
 unfolding other_names flatten
-returns-in-Others c = c.from_u8-in-Others.ensures ∙ others-start c.in-Others.is _ c.requires
+returns-in-Others c = c.from-in-Others.ensures ∙ others-start c.in-Others.is _ c.requires

@@ -13,8 +13,5 @@ loop-j-smaller c = search noting-less
 pub loop-j-preserved : goal.loop-j-preserved
 loop-j-preserved c = search noting-more
 
-pub shape_of-ops : goal.shape_of-ops
-shape_of-ops c = (noting-all c.loop-j.invariant c.loop-j-test.false).same_ops
-
 pub returns : goal.returns
 returns c = noting-all c.loop-j.invariant c.loop-j-test.false

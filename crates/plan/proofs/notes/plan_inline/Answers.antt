@@ -10,6 +10,3 @@ plan_all-requires c = stretch_region c.requires.first
 
 pub returns : goal.returns
 returns c = inline-planned _ _ _ c.args.g _ c.kinds_of-w.ensures c.plan_all.ensures
-
-pub shape_of-ops : goal.shape_of-ops
-shape_of-ops c = (returns c).same_ops

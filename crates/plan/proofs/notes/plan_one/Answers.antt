@@ -5,8 +5,5 @@ use Rattle.plan.proofs.notes.plan_one.Goals as goal
 pub returns-then-is : goal.returns-then-is
 returns-then-is c = one-planned _ _ _ _ _ c.kind_at-k.ensures c.is.ensures (search rules) c.plan_comment.ensures
 
-pub shape_of-ops : goal.shape_of-ops
-shape_of-ops c = (returns-then-is c).same_ops
-
 pub returns-else-is : goal.returns-else-is
 returns-else-is c = one_none _ _ _ _ _ c.kind_at-k.ensures c.is.ensures c.if-is.false

@@ -13,6 +13,3 @@ plan_all-requires-2 c = stretch_region c.requires.second
 
 pub returns : goal.returns
 returns c = waiting-planned _ _ _ c.args.g _ c.kinds_of-w.ensures c.plan_all.ensures c.note_kinds-v.ensures c.plan_all-2.ensures
-
-pub shape_of-ops : goal.shape_of-ops
-shape_of-ops c = (returns c).same_ops

@@ -1,6 +1,5 @@
 use mathlib.Core.Path.{sym, ◌∙◌}
 use native.Mathlib.Omega.{arith}
-use Rattle.items.proofs.Fits.{puts-same}
 use Rattle.plan.proofs.Written.{token-op, word-op, note-op, plain_op, texted, noted, puts_as, fits_as}
 use Rattle.plan.proofs.write.write_op.Goals as goal
 
@@ -10,23 +9,11 @@ put_text-requires c = record { listed_value = c.requires.listed_value; p_value =
 pub returns-then-k-eq-TOKEN : goal.returns-then-k-eq-TOKEN
 returns-then-k-eq-TOKEN c = puts_as (token-op _ _ c.if-k-eq-TOKEN.true ∙ texted (sym c.text_at.ensures)) c.put_text.ensures
 
-pub shape_of-records-then-k-eq-TOKEN : goal.shape_of-records-then-k-eq-TOKEN
-shape_of-records-then-k-eq-TOKEN c = (puts-same (returns-then-k-eq-TOKEN c)).0
-
-pub shape_of-texts-then-k-eq-TOKEN : goal.shape_of-texts-then-k-eq-TOKEN
-shape_of-texts-then-k-eq-TOKEN c = (puts-same (returns-then-k-eq-TOKEN c)).1
-
 pub put_text-requires-then-k-eq-WORD : goal.put_text-requires-then-k-eq-WORD
 put_text-requires-then-k-eq-WORD c = record { listed_value = c.requires.listed_value; p_value = fits_as _ _ _ (word-op _ _ c.if-k-eq-WORD.true ∙ texted (sym c.word_in.ensures)) c.requires.p_value }
 
 pub returns-then-k-eq-WORD : goal.returns-then-k-eq-WORD
 returns-then-k-eq-WORD c = puts_as (word-op _ _ c.if-k-eq-WORD.true ∙ texted (sym c.word_in.ensures)) c.put_text-then-k-eq-WORD.ensures
-
-pub shape_of-records-then-k-eq-WORD : goal.shape_of-records-then-k-eq-WORD
-shape_of-records-then-k-eq-WORD c = (puts-same (returns-then-k-eq-WORD c)).0
-
-pub shape_of-texts-then-k-eq-WORD : goal.shape_of-texts-then-k-eq-WORD
-shape_of-texts-then-k-eq-WORD c = (puts-same (returns-then-k-eq-WORD c)).1
 
 pub put_note-requires : goal.put_note-requires
 put_note-requires c = fits_as _ _ _ (note-op _ _ c.if-k-ge-NOTE_ABOVE.true ∙ noted _ _ (sym c.place_of.ensures)) c.requires.p_value
@@ -34,20 +21,8 @@ put_note-requires c = fits_as _ _ _ (note-op _ _ c.if-k-ge-NOTE_ABOVE.true ∙ n
 pub returns-then-k-ge-NOTE_ABOVE : goal.returns-then-k-ge-NOTE_ABOVE
 returns-then-k-ge-NOTE_ABOVE c = puts_as (note-op _ _ c.if-k-ge-NOTE_ABOVE.true ∙ noted _ _ (sym c.place_of.ensures)) c.put_note.ensures
 
-pub shape_of-records-then-k-ge-NOTE_ABOVE : goal.shape_of-records-then-k-ge-NOTE_ABOVE
-shape_of-records-then-k-ge-NOTE_ABOVE c = (puts-same (returns-then-k-ge-NOTE_ABOVE c)).0
-
-pub shape_of-texts-then-k-ge-NOTE_ABOVE : goal.shape_of-texts-then-k-ge-NOTE_ABOVE
-shape_of-texts-then-k-ge-NOTE_ABOVE c = (puts-same (returns-then-k-ge-NOTE_ABOVE c)).1
-
 pub put_plain-requires : goal.put_plain-requires
 put_plain-requires c = record { listed_value = c.requires.listed_value; le_kind = omega (arith, c.if-k-eq-TOKEN.false, c.if-k-eq-WORD.false); kind_bound = omega (arith, c.if-k-ge-NOTE_ABOVE.false); p_value = fits_as _ _ _ (plain_op _ _ c.if-k-eq-TOKEN.false c.if-k-eq-WORD.false c.if-k-ge-NOTE_ABOVE.false) c.requires.p_value }
 
 pub returns : goal.returns
 returns c = puts_as (plain_op _ _ c.if-k-eq-TOKEN.false c.if-k-eq-WORD.false c.if-k-ge-NOTE_ABOVE.false) c.put_plain.ensures
-
-pub shape_of-records : goal.shape_of-records
-shape_of-records c = (puts-same (returns c)).0
-
-pub shape_of-texts : goal.shape_of-texts
-shape_of-texts c = (puts-same (returns c)).1

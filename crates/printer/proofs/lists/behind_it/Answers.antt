@@ -1,4 +1,3 @@
-use Rattle.plan.proofs.Laws.{blank}
 use Rattle.printer.specs.Lists.{behind_it}
 use Rattle.printer.proofs.Chosen.{behind_of}
 use Rattle.printer.proofs.lists.behind_it.Goals as goal
@@ -7,33 +6,18 @@ pub returns-in-Elements : goal.returns-in-Elements
 unfolding behind_it
 returns-in-Elements c = λ s. behind_of _ _ c.in-Elements.is (c.separator.ensures s)
 
-pub shape_of-ops-in-Elements : goal.shape_of-ops-in-Elements
-shape_of-ops-in-Elements c = (returns-in-Elements c blank).same_ops
-
 pub returns-in-Arguments : goal.returns-in-Arguments
 unfolding behind_it
 returns-in-Arguments c = λ s. behind_of _ _ c.in-Arguments.is (c.separator_if.ensures s)
-
-pub shape_of-ops-in-Arguments : goal.shape_of-ops-in-Arguments
-shape_of-ops-in-Arguments c = (returns-in-Arguments c blank).same_ops
 
 pub returns-in-Members : goal.returns-in-Members
 unfolding behind_it
 returns-in-Members c = λ s. behind_of _ _ c.in-Members.is (c.separator-in-Members.ensures s)
 
-pub shape_of-ops-in-Members : goal.shape_of-ops-in-Members
-shape_of-ops-in-Members c = (returns-in-Members c blank).same_ops
-
 pub returns-in-Specs : goal.returns-in-Specs
 unfolding behind_it
 returns-in-Specs c = λ s. behind_of _ _ c.in-Specs.is (c.separator-in-Specs.ensures s)
 
-pub shape_of-ops-in-Specs : goal.shape_of-ops-in-Specs
-shape_of-ops-in-Specs c = (returns-in-Specs c blank).same_ops
-
 pub returns-in-Binds : goal.returns-in-Binds
 unfolding behind_it
 returns-in-Binds c = λ s. behind_of _ _ c.in-Binds.is (c.plan_signal.ensures s)
-
-pub shape_of-ops-in-Binds : goal.shape_of-ops-in-Binds
-shape_of-ops-in-Binds c = (returns-in-Binds c blank).same_ops

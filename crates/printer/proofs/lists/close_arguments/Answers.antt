@@ -17,6 +17,3 @@ returns c =
     ▸ c.repeat_body.ensures _
     ▸ c.plan_ending.ensures
     ▸ c.close_bracket.ensures _
-
-pub shape_of-ops : goal.shape_of-ops
-shape_of-ops c = (returns c).same_ops

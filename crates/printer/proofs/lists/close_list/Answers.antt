@@ -16,6 +16,3 @@ returns c =
     ▸ c.plan_word.ensures _
     ▸ c.repeat_body.ensures _
     ▸ c.close_bracket.ensures _
-
-pub shape_of-ops : goal.shape_of-ops
-shape_of-ops c = (returns c).same_ops

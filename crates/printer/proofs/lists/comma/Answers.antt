@@ -1,4 +1,3 @@
-use Rattle.plan.proofs.Laws.{blank}
 use Rattle.plan.specs.Words.{words}
 use Rattle.printer.proofs.Chosen.{comma-more, comma-last}
 use Rattle.printer.proofs.lists.comma.Goals as goal
@@ -7,11 +6,5 @@ pub returns-then-more : goal.returns-then-more
 unfolding words
 returns-then-more c = λ s. comma-more _ _ c.if-more.true (c.plan_word.ensures s)
 
-pub shape_of-ops-then-more : goal.shape_of-ops-then-more
-shape_of-ops-then-more c = (returns-then-more c blank).same_ops
-
 pub returns : goal.returns
 returns c = λ s. comma-last _ _ c.if-more.false (c.trailing_comma.ensures s)
-
-pub shape_of-ops : goal.shape_of-ops
-shape_of-ops c = (returns c blank).same_ops

@@ -1,12 +1,8 @@
-use Rattle.plan.proofs.Laws.{blank}
 use Rattle.printer.proofs.Chosen.{when_yes, when_no}
 use Rattle.printer.proofs.lists.newline_if.Goals as goal
 
 pub returns-then-b : goal.returns-then-b
 returns-then-b c = λ s. when_yes _ _ c.if-b.true (c.plan_signal.ensures s)
-
-pub shape_of-ops : goal.shape_of-ops
-shape_of-ops c = (returns-then-b c blank).same_ops
 
 pub returns-else-b : goal.returns-else-b
 returns-else-b c = λ s. when_no _ _ c.if-b.false

@@ -1,10 +1,7 @@
-use Rattle.plan.proofs.Laws.{◌▸◌, blank}
+use Rattle.plan.proofs.Laws.{◌▸◌}
 use Rattle.plan.specs.Words.{words}
 use Rattle.printer.proofs.lists.open_binds.Goals as goal
 
 pub returns : goal.returns
 unfolding words
 returns c = λ s. c.plan_word.ensures s ▸ c.plan_signal.ensures s ▸ c.plan_signal-2.ensures s
-
-pub shape_of-ops : goal.shape_of-ops
-shape_of-ops c = (returns c blank).same_ops

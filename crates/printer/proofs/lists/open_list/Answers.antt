@@ -1,4 +1,4 @@
-use Rattle.plan.proofs.Laws.{◌▸◌, blank}
+use Rattle.plan.proofs.Laws.{◌▸◌}
 use Rattle.printer.specs.Lists.{open_list}
 use Rattle.printer.proofs.Chosen.{mark_as}
 use Rattle.printer.proofs.lists.open_list.Goals as goal
@@ -13,6 +13,3 @@ returns c =
     ▸ c.plan_signal-2.ensures s
     ▸ c.open_run.ensures s
     ▸ c.plan_signal-3.ensures s
-
-pub shape_of-ops : goal.shape_of-ops
-shape_of-ops c = (returns c blank).same_ops

@@ -6,6 +6,3 @@ use Rattle.printer.proofs.lists.plan_above.Goals as goal
 pub returns : goal.returns
 unfolding above
 returns c = when_as _ c.blank_line-blank.ensures (c.newline_if.ensures _) ▸ c.plan_waiting.ensures
-
-pub shape_of-ops : goal.shape_of-ops
-shape_of-ops c = (returns c).same_ops

@@ -4,6 +4,3 @@ use Rattle.printer.proofs.lists.plan_behind.Goals as goal
 
 pub returns : goal.returns
 returns c = by (following_is _ _ _ c.at_child-more.ensures) (c.on_line.ensures _ ▸ c.plan_inline.ensures ▸ c.behind_it.ensures _)
-
-pub shape_of-ops : goal.shape_of-ops
-shape_of-ops c = (returns c).same_ops

@@ -3,6 +3,3 @@ use Rattle.printer.proofs.lists.plan_ending.Goals as goal
 
 pub returns : goal.returns
 returns c = c.newline_if.ensures _ ▸ c.plan_waiting.ensures
-
-pub shape_of-ops : goal.shape_of-ops
-shape_of-ops c = (returns c).same_ops

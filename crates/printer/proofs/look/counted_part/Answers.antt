@@ -1,9 +1,5 @@
-use Rattle.printer.proofs.Looking.{nth-found}
 use Rattle.printer.proofs.Under.{at-region}
 use Rattle.printer.proofs.look.counted_part.Goals as goal
 
 pub nth_of-requires : goal.nth_of-requires
 nth_of-requires c = search at-region
-
-pub returns : goal.returns
-returns c = search nth-found

@@ -1,8 +1,5 @@
-use Rattle.printer.proofs.Looking.{first-has, ends-has, bounded_as}
+use Rattle.printer.proofs.Looking.{first-has, ends-has}
 use Rattle.printer.proofs.look.enclosed.Goals as goal
 
 pub bounds_between-requires : goal.bounds_between-requires
 bounds_between-requires c = search (ends-has, first-has)
-
-pub returns : goal.returns
-returns c = search bounded_as

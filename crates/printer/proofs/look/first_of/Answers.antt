@@ -1,9 +1,5 @@
-use Rattle.printer.proofs.Looking.{nth-found}
 use Rattle.printer.proofs.Under.{at-region}
 use Rattle.printer.proofs.look.first_of.Goals as goal
 
 pub first_from-requires : goal.first_from-requires
 first_from-requires c = search at-region
-
-pub returns : goal.returns
-returns c = search nth-found

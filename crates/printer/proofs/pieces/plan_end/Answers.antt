@@ -1,5 +1,5 @@
 use borrow.Author.Tests.{not-true, not-false}
-use Rattle.plan.proofs.Laws.{◌▸◌, blank}
+use Rattle.plan.proofs.Laws.{◌▸◌}
 use Rattle.plan.specs.Words.{words}
 use Rattle.printer.proofs.Chosen.{when_yes, when_no}
 use mathlib.Core.Path.{ap}
@@ -12,6 +12,3 @@ returns-then-not-ended c = λ s. when_no _ _ (not-true _ (ap not c.if-not-ended.
 pub returns : goal.returns
 unfolding words
 returns c = λ s. when_yes _ _ (not-false _ (ap not c.if-not-ended.false)) (c.plan_word.ensures s ▸ c.plan_signal.ensures s)
-
-pub shape_of-ops : goal.shape_of-ops
-shape_of-ops c = (returns c blank).same_ops

@@ -4,13 +4,14 @@ use native.Mathlib.Omega.{arith}
 use Rattle.plan.proofs.Laws.{by, ◌▸◌, idle}
 use Rattle.printer.proofs.Walking.{survey-outlined, survey-foreign, outlined-whole, outlined-count, after-outlined, after-foreign, spans_as, walks-region, walks_less, walking-none, walking-more, walking-all_lem, unasked-lies, unasked-around, walking-first, stating-all, statements-over, statements-foreign, valuing-none, valuing-more, valuing-all, values-over, values-foreign}
 use Rattle.printer.proofs.Listing.{args-foreign, local-foreign, specs-foreign, around_is, comp-foreign, list-foreign}
+use Rattle.tree.proofs.Options.{lacking}
 use Rattle.printer.proofs.Printed.{enclosed-reading, left_paren, right_paren, plans-args, plans-binds, left_brace, right_brace, spec_reading, plans-comp, comp-lacks, member_reading, plans-expr, list-reading, plans-empty, plans-list}
 use Rattle.printer.proofs.Readings.{within, walks-first, items-walk, walks-kid}
 use Rattle.printer.specs.Print.{local_of, element}
 use Rattle.items.specs.declared.Condition.TheVariants.{Always}
-use Rattle.printer.proofs.Rowing.{kid_falls, eaching-none, eaching-kid, eaching-less, eaching-more, eaching-all, class-tested, each-other, each-one, found_kid, number-found, number-none, piece-unasked, piece-asked_lem, piece-each, piece-part, rowing-none, rowing_more, rowing-in, rowing-all}
+use Rattle.printer.proofs.Rowing.{kid_falls, eaching-none, eaching-kid, eaching-less, eaching-more, eaching-all, class-tested, each-other, each-one, found_kid, number-found, number-none, piece-unasked, piece-asked_lem, piece-text, piece-signal, piece-each, piece-part, piece-plus, rowing-none, rowing_more, rowing-in, rowing-all}
 use Rattle.printer.proofs.Under.{kid_at, kid-print}
-use Rattle.printer.proofs.Looking.{first-has, ends-has, bounded_as, none_has, part-has}
+use Rattle.printer.proofs.Looking.{first-has, ends-has, bounded_as, none_has, want-has, plus-part}
 use Rattle.plan.specs.Words.{words}
 use Rattle.printer.specs.Rows.{tested}
 use Rattle.children.proofs.Uses.{child_is, lead-next}
@@ -30,7 +31,7 @@ pub args-survey-o-requires : goal.args-survey-o-requires
 args-survey-o-requires t c = c.enclosed-z.ensures.region
 
 pub args-returns-then-is_stopped : goal.args-returns-then-is_stopped
-args-returns-then-is_stopped t c = by (args-foreign _ (enclosed-reading _ _ _ _ c.enclosed-z.ensures ∙ survey-foreign _ c.kinds_of.ensures c.survey-o.ensures c.is_stopped.ensures c.if-is_stopped.true)) (c.stop_at.ensures _ _)
+args-returns-then-is_stopped t c = by (args-foreign _ (enclosed-reading _ _ _ _ c.enclosed-z.ensures ∙ survey-foreign _ c.kinds_of.ensures c.survey-o.ensures c.is_stopped.ensures c.if-is_stopped.true)) (c.stop_at.ensures.plans _)
 
 pub args-items-requires : goal.args-items-requires
 args-items-requires t c = (omega (arith, c.decreases), (within c.requires c.enclosed-z.ensures, outlined-whole (survey-outlined _ c.kinds_of.ensures c.survey-o.ensures c.is_stopped.ensures c.if-is_stopped.false)))
@@ -47,7 +48,7 @@ pub binds-survey-o-requires : goal.binds-survey-o-requires
 binds-survey-o-requires t c = c.enclosed-z.ensures.region
 
 pub binds-returns-then-is_stopped : goal.binds-returns-then-is_stopped
-binds-returns-then-is_stopped t c = by (local-foreign _ (enclosed-reading _ _ _ _ c.enclosed-z.ensures ∙ survey-foreign _ c.kinds_of.ensures c.survey-o.ensures c.is_stopped.ensures c.if-is_stopped.true)) (c.stop_at.ensures _ _)
+binds-returns-then-is_stopped t c = by (local-foreign _ (enclosed-reading _ _ _ _ c.enclosed-z.ensures ∙ survey-foreign _ c.kinds_of.ensures c.survey-o.ensures c.is_stopped.ensures c.if-is_stopped.true)) (c.stop_at.ensures.plans _)
 
 pub binds-lone-requires : goal.binds-lone-requires
 binds-lone-requires t c =
@@ -75,7 +76,7 @@ pub body-survey_after-o-requires : goal.body-survey_after-o-requires
 body-survey_after-o-requires t c = record { region = c.spec_bounds-z.ensures.region; lies = c.requires.lies }
 
 pub body-returns-then-is_stopped : goal.body-returns-then-is_stopped
-body-returns-then-is_stopped t c = by (specs-foreign _ _ c.requires.outlined _ (spec_reading _ c.requires.outlined c.spec_bounds-z.ensures) (after-foreign _ c.kinds_of-w.ensures c.survey_after-o.ensures c.is_stopped.ensures c.if-is_stopped.true)) (c.stop_at.ensures _ _)
+body-returns-then-is_stopped t c = by (specs-foreign _ _ c.requires.outlined _ (spec_reading _ c.requires.outlined c.spec_bounds-z.ensures) (after-foreign _ c.kinds_of-w.ensures c.survey_after-o.ensures c.is_stopped.ensures c.if-is_stopped.true)) (c.stop_at.ensures.plans _)
 
 pub body-items-requires : goal.body-items-requires
 body-items-requires t c = (omega (arith, c.decreases), (c.requires.within, outlined-whole c.requires.outlined))
@@ -101,8 +102,8 @@ child-returns t c = by (around_is _ _ _ _ _ _ _) (c.plan_above.ensures ▸ by (k
 
 -- ---- comp
 
-pub comp-returns-then-is_nothing : goal.comp-returns-then-is_nothing
-comp-returns-then-is_nothing t c = by (comp-lacks _ _ _ _ c.first_of-spec.ensures c.is_nothing.ensures c.if-is_nothing.true) (c.stop_at.ensures _ _)
+pub comp-returns-then-is_none : goal.comp-returns-then-is_none
+comp-returns-then-is_none t c = by (comp-lacks _ _ _ _ c.first_of-spec.ensures (lacking _ c.is_none.ensures) c.if-is_none.true) (c.stop_at.ensures.plans _)
 
 pub comp-bounds_between-y-requires : goal.comp-bounds_between-y-requires
 comp-bounds_between-y-requires t c = ends-has c.requires c.first_in-a.ensures c.end_at.ensures (first-has _ _ c.first_of-brace.ensures) (first-has _ _ c.first_of-spec.ensures)
@@ -113,7 +114,7 @@ comp-survey-m-requires t c = c.bounds_between-y.ensures.region
 pub comp-returns-then-is_stopped : goal.comp-returns-then-is_stopped
 comp-returns-then-is_stopped t c =
     let d = bounded_as _ c.first_in-a.ensures c.end_at.ensures c.first_of-brace.ensures c.first_of-spec.ensures c.bounds_between-y.ensures in
-    by (member_reading _ _ _ c.first_of-spec.ensures c.is_nothing.ensures c.if-is_nothing.false d ∙ comp-foreign _ _ (survey-foreign _ c.kinds_of.ensures c.survey-m.ensures c.is_stopped.ensures c.if-is_stopped.true)) (c.stop_at-then-is_stopped.ensures _ _)
+    by (member_reading _ _ _ c.first_of-spec.ensures (lacking _ c.is_none.ensures) c.if-is_none.false d ∙ comp-foreign _ _ (survey-foreign _ c.kinds_of.ensures c.survey-m.ensures c.is_stopped.ensures c.if-is_stopped.true)) (c.stop_at-then-is_stopped.ensures.plans _)
 
 pub comp-body-requires : goal.comp-body-requires
 comp-body-requires t c =
@@ -123,7 +124,7 @@ comp-body-requires t c =
 pub comp-returns : goal.comp-returns
 comp-returns t c =
     let d = bounded_as _ c.first_in-a.ensures c.end_at.ensures c.first_of-brace.ensures c.first_of-spec.ensures c.bounds_between-y.ensures in
-    by (member_reading _ _ _ c.first_of-spec.ensures c.is_nothing.ensures c.if-is_nothing.false d) c.body.ensures
+    by (member_reading _ _ _ c.first_of-spec.ensures (lacking _ c.is_none.ensures) c.if-is_none.false d) c.body.ensures
 
 -- ---- each
 
@@ -198,7 +199,7 @@ list-survey-o-requires t c = c.enclosed-z.ensures.region
 pub list-returns-then-is_stopped : goal.list-returns-then-is_stopped
 list-returns-then-is_stopped t c =
     let r = list-reading _ c.args.l c.opener.ensures c.closer.ensures c.child_class-c.ensures c.enclosed-z.ensures in
-    by (list-foreign _ _ _ _ (r ∙ survey-foreign _ c.kinds_of.ensures c.survey-o.ensures c.is_stopped.ensures c.if-is_stopped.true)) (c.stop_at.ensures _ _)
+    by (list-foreign _ _ _ _ (r ∙ survey-foreign _ c.kinds_of.ensures c.survey-o.ensures c.is_stopped.ensures c.if-is_stopped.true)) (c.stop_at.ensures.plans _)
 
 pub list-plan_word-requires : goal.list-plan_word-requires
 list-plan_word-requires t c = c.empty_word.ensures.known
@@ -332,14 +333,14 @@ one-returns t c = each-one _ _ _ c.requires.word_lt_word_count c.requires.kid (c
 
 pub part-node-requires : goal.part-node-requires
 part-node-requires t c =
-    let k = found_kid _ c.requires.at c.requires.has (ap found c.in-At.is) in
+    let k = found_kid _ c.requires.at c.requires.has (ap found c.in-Some.is) in
     (kid_falls 0 k (omega (arith, c.decreases)), kid_at k)
 
-pub part-returns-in-At : goal.part-returns-in-At
-part-returns-in-At t c = by (number-found _ (ap found c.in-At.is) (found_kid _ c.requires.at c.requires.has (ap found c.in-At.is))) c.node.ensures
+pub part-returns-in-Some : goal.part-returns-in-Some
+part-returns-in-Some t c = by (number-found _ (ap found c.in-Some.is) (found_kid _ c.requires.at c.requires.has (ap found c.in-Some.is))) c.node.ensures
 
-pub part-returns-in-Nothing : goal.part-returns-in-Nothing
-part-returns-in-Nothing t c = by (number-none _ _ (ap found c.in-Nothing.is)) (c.plan_optional.ensures _)
+pub part-returns-in-None : goal.part-returns-in-None
+part-returns-in-None t c = by (number-none _ _ (ap found c.in-None.is)) (c.plan_optional.ensures _)
 
 -- ---- piece
 
@@ -354,28 +355,38 @@ piece-is_asked-requires t c =
 pub piece-returns-then-not-is_asked : goal.piece-returns-then-not-is_asked
 piece-returns-then-not-is_asked t c = by (piece-unasked _ _ _ _ _ c.entry_at-x.ensures c.is_asked.ensures (ap not c.if-not-is_asked.true)) idle
 
-pub piece-fixed-requires : goal.piece-fixed-requires
-piece-fixed-requires t c = record { what_bound = c.if-x-lt-PART.true; word_lt_word_count = c.entry_at-x.ensures.word }
+pub piece-plan_word-requires : goal.piece-plan_word-requires
+piece-plan_word-requires t c = c.entry_at-x.ensures.word
 
-pub piece-returns-then-x-lt-PART : goal.piece-returns-then-x-lt-PART
-piece-returns-then-x-lt-PART t c = by (piece-asked_lem _ _ _ _ _ c.entry_at-x.ensures c.is_asked.ensures (ap not c.if-not-is_asked.false)) (c.fixed.ensures _ _ _)
+pub piece-returns-in-Text : goal.piece-returns-in-Text
+piece-returns-in-Text t c = by (piece-asked_lem _ _ _ _ _ c.entry_at-x.ensures c.is_asked.ensures (ap not c.if-not-is_asked.false) ∙ piece-text _ _ c.entry_at-x.result c.what_in.ensures c.in-Text.is) (c.plan_word.ensures _)
+
+pub piece-returns-in-Signal : goal.piece-returns-in-Signal
+piece-returns-in-Signal t c = by (piece-asked_lem _ _ _ _ _ c.entry_at-x.ensures c.is_asked.ensures (ap not c.if-not-is_asked.false) ∙ piece-signal _ _ c.entry_at-x.result c.what_in.ensures c.in-Signal.is) (c.plan_signal.ensures _)
 
 pub piece-each-requires : goal.piece-each-requires
 piece-each-requires t c = (omega (arith, c.decreases), (c.requires.at, (c.entry_at-x.ensures.want, c.entry_at-x.ensures.word)))
 
-pub piece-returns-then-x : goal.piece-returns-then-x
-piece-returns-then-x t c = by (piece-asked_lem _ _ _ _ _ c.entry_at-x.ensures c.is_asked.ensures (ap not c.if-not-is_asked.false) ∙ piece-each _ _ _ _ _ c.if-x.true) c.each.ensures
+pub piece-returns-in-Each : goal.piece-returns-in-Each
+piece-returns-in-Each t c = by (piece-asked_lem _ _ _ _ _ c.entry_at-x.ensures c.is_asked.ensures (ap not c.if-not-is_asked.false) ∙ piece-each _ _ c.entry_at-x.result c.what_in.ensures c.in-Each.is) c.each.ensures
 
-pub piece-part_of-f-requires : goal.piece-part_of-f-requires
-piece-part_of-f-requires t c = record { at = c.requires.at; marks = marks_weak c.requires.marks; want_lt_want_count = c.entry_at-x.ensures.want }
+pub piece-wanted_part-f-requires : goal.piece-wanted_part-f-requires
+piece-wanted_part-f-requires t c = record { at = c.requires.at; marks = marks_weak c.requires.marks; w_lt_want_count = c.entry_at-x.ensures.want }
 
 pub piece-part-requires : goal.piece-part-requires
-piece-part-requires t c = (omega (arith, c.decreases), (c.requires.at, (part-has _ _ c.part_of-f.ensures, c.entry_at-x.ensures.word)))
+piece-part-requires t c = (omega (arith, c.decreases), (c.requires.at, (want-has _ _ c.wanted_part-f.ensures, c.entry_at-x.ensures.word)))
 
-pub piece-returns : goal.piece-returns
-piece-returns t c =
-    let x = c.entry_at-x.ensures in
-    by (piece-asked_lem _ _ _ _ _ x c.is_asked.ensures (ap not c.if-not-is_asked.false) ∙ piece-part _ _ _ x.settles c.if-x-lt-PART.false c.if-x.false ∙ ap (number_or _ _) (sym c.part_of-f.ensures)) c.part.ensures
+pub piece-returns-in-Part : goal.piece-returns-in-Part
+piece-returns-in-Part t c = by (piece-asked_lem _ _ _ _ _ c.entry_at-x.ensures c.is_asked.ensures (ap not c.if-not-is_asked.false) ∙ piece-part _ _ c.entry_at-x.result c.what_in.ensures c.entry_at-x.ensures.settles c.in-Part.is ∙ ap (number_or _ _) (sym c.wanted_part-f.ensures)) c.part.ensures
+
+pub piece-plus_part-f-requires : goal.piece-plus_part-f-requires
+piece-plus_part-f-requires t c = record { at = c.requires.at; marks = marks_weak c.requires.marks }
+
+pub piece-part-requires-in-Plus : goal.piece-part-requires-in-Plus
+piece-part-requires-in-Plus t c = (omega (arith, c.decreases), (c.requires.at, (plus-part _ c.plus_part-f.ensures, c.entry_at-x.ensures.word)))
+
+pub piece-returns-in-Plus : goal.piece-returns-in-Plus
+piece-returns-in-Plus t c = by (piece-asked_lem _ _ _ _ _ c.entry_at-x.ensures c.is_asked.ensures (ap not c.if-not-is_asked.false) ∙ piece-plus _ _ c.entry_at-x.result c.what_in.ensures c.entry_at-x.ensures.settles c.in-Plus.is ∙ ap (number_or _ _) (sym c.plus_part-f.ensures)) c.part-in-Plus.ensures
 
 -- ---- row
 
@@ -428,7 +439,7 @@ pub stmts-returns-then-z : goal.stmts-returns-then-z
 stmts-returns-then-z t c = by (statements-over _ _ _ _ _ c.if-z.true) idle
 
 pub stmts-returns-then-is_stopped : goal.stmts-returns-then-is_stopped
-stmts-returns-then-is_stopped t c = by (statements-foreign _ (survey-foreign _ c.kinds_of-w.ensures c.survey-o.ensures c.is_stopped.ensures c.if-is_stopped.true)) (c.stop_at.ensures _ _)
+stmts-returns-then-is_stopped t c = by (statements-foreign _ (survey-foreign _ c.kinds_of-w.ensures c.survey-o.ensures c.is_stopped.ensures c.if-is_stopped.true)) (c.stop_at.ensures.plans _)
 
 pub stmts-loop-i-init : goal.stmts-loop-i-init
 stmts-loop-i-init t c = walking-first _ c.requires c.kinds_of-w.ensures c.gap-s.ensures
@@ -456,7 +467,7 @@ pub values-returns-then-z : goal.values-returns-then-z
 values-returns-then-z t c = by (values-over _ _ _ _ _ c.if-z.true) idle
 
 pub values-returns-then-is_stopped : goal.values-returns-then-is_stopped
-values-returns-then-is_stopped t c = by (values-foreign _ (survey-foreign _ c.kinds_of-w.ensures c.survey-o.ensures c.is_stopped.ensures c.if-is_stopped.true)) (c.stop_at.ensures _ _)
+values-returns-then-is_stopped t c = by (values-foreign _ (survey-foreign _ c.kinds_of-w.ensures c.survey-o.ensures c.is_stopped.ensures c.if-is_stopped.true)) (c.stop_at.ensures.plans _)
 
 pub values-loop-z-init : goal.values-loop-z-init
 values-loop-z-init t c = search valuing-none

@@ -1,6 +1,6 @@
 use native.Mathlib.Omega.{arith}
-use Rattle.text.proofs.Flags.{pad_compared}
+use Rattle.text.proofs.Flags.{pad_tested}
 use Rattle.text.proofs.class.is_padding.Goals as goal
 
 pub returns : goal.returns
-returns c = pad_compared c.args.b (omega arith)
+returns c = rw c.is_ascii_whitespace.ensures.value (pad_tested c.args.b (omega arith))

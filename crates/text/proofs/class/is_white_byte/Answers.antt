@@ -1,6 +1,6 @@
 use native.Mathlib.Omega.{arith}
-use Rattle.text.proofs.Flags.{white_compared}
+use Rattle.text.proofs.Flags.{white_tested}
 use Rattle.text.proofs.class.is_white_byte.Goals as goal
 
 pub returns : goal.returns
-returns c = white_compared c.args.b (omega arith)
+returns c = rw c.is_ascii_whitespace.ensures.value (white_tested c.args.b (omega arith))

@@ -1,10 +1,8 @@
-use Prim.Native.Nat.{◌-◌}
-use lib.ListN.{length}
-use Rattle.text.proofs.Walking.{Counting}
+use mathlib.Core.Path.{◌≡◌}
+use lib.Dec.{eqb}
+use lib.ListN.{take}
+use Rattle.std.specs.List.{count_by}
 use Rattle.text.proofs.lines.line_feeds.Given as goal
 
-abbrev pub invariant-loop-i : goal.invariant-loop-i
-invariant-loop-i l = Counting l.s l.n l.i
-
-abbrev pub decreases-loop-i : goal.decreases-loop-i
-decreases-loop-i l = length l.s - l.i
+abbrev pub invariant-loop-b : goal.invariant-loop-b
+invariant-loop-b l = l.n ≡ count_by (λ b. eqb b 10) (take l.b-index l.s)

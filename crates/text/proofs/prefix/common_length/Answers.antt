@@ -1,17 +1,12 @@
-use Rattle.text.proofs.Walking.{common-none, common-more_lem, common-stop, common-short, common-all}
+use Rattle.std.proofs.Common.{rules, tests, ◌∙◌}
+use Rattle.std.proofs.lemmas.Iterator.{YieldsList-from_slice, YieldsList-from_zip}
+use Rattle.text.proofs.Walking.{count_while, common, common-length}
 use Rattle.text.proofs.prefix.common_length.Goals as goal
 
-pub loop-n-init : goal.loop-n-init
-loop-n-init c = search common-none
-
-pub returns-then-b-n : goal.returns-then-b-n
-returns-then-b-n c = search common-short
-
-pub returns-then-not-is_common : goal.returns-then-not-is_common
-returns-then-not-is_common c = search common-stop
-
-pub loop-n-preserved : goal.loop-n-preserved
-loop-n-preserved c = search common-more_lem
-
 pub returns : goal.returns
-returns c = search common-all
+returns c =
+    let a = c.args.a.now in
+    let b = c.args.b.now in
+    let t = c.take_while.ensures in
+    count_while _ common _ _ c.count.ensures.ran (YieldsList-from_zip (YieldsList-from_slice a (cc)) (YieldsList-from_slice b (cc))) t.closure t.done (λ x b q k. search (rules, tests))
+    ∙ common-length a b

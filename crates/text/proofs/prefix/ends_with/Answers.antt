@@ -1,8 +1,6 @@
-use Rattle.text.proofs.Walking.{ends-short, ends_at}
+use Rattle.std.proofs.Common.{rules, ◌∙◌}
+use Rattle.text.proofs.Walking.{ends-is}
 use Rattle.text.proofs.prefix.ends_with.Goals as goal
 
-pub returns-then-s-t : goal.returns-then-s-t
-returns-then-s-t c = search ends-short
-
 pub returns : goal.returns
-returns c = search ends_at
+returns c = c.ends_with.ensures.value ∙ ends-is c.args.s.now c.args.t.now (λ h. search rules)

@@ -1,17 +1,17 @@
-use Rattle.text.proofs.Owing.{after_wrong, after_none, after-low, after-high, after_tail}
+use Rattle.std.proofs.Common.{rules, ◌≡◌, true, false}
+use Rattle.text.specs.Basic.{within}
+use Rattle.text.proofs.Owing.{after_none, after_tail, after_wrong}
 use Rattle.text.proofs.utf8.after_byte.Goals as goal
 
-pub returns-in_default : goal.returns-in_default
-returns-in_default c = search after_wrong
+pub returns-then-t-eq0 : goal.returns-then-t-eq0
+returns-then-t-eq0 c = search after_none
 
-pub returns-then-more-eq0 : goal.returns-then-more-eq0
-returns-then-more-eq0 c = search after_none
-
-pub returns-then-b-low : goal.returns-then-b-low
-returns-then-b-low c = search after-low
-
-pub returns-then-high-b : goal.returns-then-high-b
-returns-then-high-b c = search after-high
+pub returns-then-not-contains : goal.returns-then-not-contains
+returns-then-not-contains c =
+    let w : within c.args.t.low c.args.t.high c.args.b ≡ false = search rules in
+    after_wrong _ _ c.if-t-eq0.false w
 
 pub returns : goal.returns
-returns c = search after_tail
+returns c =
+    let w : within c.args.t.low c.args.t.high c.args.b ≡ true = search rules in
+    after_tail _ _ _ c.if-t-eq0.false w c.any_tails.ensures

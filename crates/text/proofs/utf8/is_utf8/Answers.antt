@@ -1,16 +1,19 @@
-use Rattle.text.proofs.Owing.{validating_none, validating_more, validating_on, validating_all}
+use Rattle.text.proofs.Owing.{validating_none, validating_wrong, validating_more, validating_on, validating_all}
 use Rattle.text.proofs.utf8.is_utf8.Goals as goal
 
-pub loop-i-init : goal.loop-i-init
-loop-i-init c = search validating_none
+pub loop-b-init : goal.loop-b-init
+loop-b-init c = validating_none _ (cc) c.behind_ascii-rest.ensures.same
 
-pub loop-i-preserved-then-owes_nothing : goal.loop-i-preserved-then-owes_nothing
-loop-i-preserved-then-owes_nothing c =
-    let e = c.ascii_end-i-then-owes_nothing.ensures in
-    validating_on _ _ (validating_more c.loop-i.invariant c.loop-i-test.true c.after_byte-o.ensures) c.owes_nothing.ensures c.if-owes_nothing.true e.upto e.same
+pub returns-in_default-after_byte : goal.returns-in_default-after_byte
+returns-in_default-after_byte c = validating_wrong c.loop-b.invariant c.in-Some.ensures.cases.0 _ c.after_byte.ensures c.in_default-after_byte.is
 
-pub loop-i-preserved : goal.loop-i-preserved
-loop-i-preserved c = search validating_more
+pub loop-b-preserved-then-owed-eq0 : goal.loop-b-preserved-then-owed-eq0
+loop-b-preserved-then-owed-eq0 c =
+    let v = validating_more c.loop-b.invariant c.in-Some.ensures.cases.0 _ c.after_byte.ensures _ c.in-Some-after_byte.is in
+    validating_on v c.if-owed-eq0.true c.behind_ascii-rest-then-owed-eq0.ensures.same
+
+pub loop-b-preserved : goal.loop-b-preserved
+loop-b-preserved c = validating_more c.loop-b.invariant c.in-Some.ensures.cases.0 _ c.after_byte.ensures _ c.in-Some-after_byte.is
 
 pub returns : goal.returns
-returns c = search validating_all
+returns c = validating_all c.loop-b.invariant c.in_default.ensures.cases

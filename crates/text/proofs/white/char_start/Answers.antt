@@ -1,14 +1,14 @@
-use Rattle.text.proofs.Trimming.{back_none, back_more, back-stop, back_end}
+use Rattle.std.proofs.Common.{rules, tests}
+use Rattle.std.proofs.lemmas.Iterator.Adapters.{YieldsList-from_rev_slice}
+use Rattle.text.proofs.Chars.{is_tail}
+use Rattle.text.proofs.Trimming.{last_char}
+use Rattle.text.proofs.Walking.{count_while}
 use Rattle.text.proofs.white.char_start.Goals as goal
 
-pub loop-j-init : goal.loop-j-init
-loop-j-init c = search back_none
-
-pub returns-then-not-is_tail : goal.returns-then-not-is_tail
-returns-then-not-is_tail c = search back-stop
-
-pub loop-j-preserved : goal.loop-j-preserved
-loop-j-preserved c = search back_more
-
 pub returns : goal.returns
-returns c = search back_end
+returns c =
+    let s = c.args.s.now in
+    let t = c.take_while.ensures in
+    last_char s c.count-tails.result c.saturating_sub.result
+    (count_while _ is_tail _ _ c.count-tails.ensures.ran (YieldsList-from_rev_slice s (cc)) t.closure t.done (λ x b q k. search (rules, tests)))
+    c.requires c.saturating_sub.ensures

@@ -1,24 +1,15 @@
 use mathlib.Core.Path.{sym, ◌∙◌}
-use mathlib.Core.Bool.{false≢true}
 use borrow.Author.Tests.{eqb-true, not-true, not-false}
 use Rattle.tree.specs.Refusal.{unknown_kind}
-use Rattle.tree.proofs.Accepted.{or_false}
+use Rattle.tree.proofs.Passing.{or_false}
 use Rattle.tree.proofs.Cleaning.{sound-node, sound-token}
 use mathlib.Core.Path.{ap}
 use mathlib.Core.Bool.{not}
 use Rattle.tree.proofs.clean.is_sound.Goals as goal
 
-pub returns-then-is_unknown-kind : goal.returns-then-is_unknown-kind
-unfolding unknown_kind
-returns-then-is_unknown-kind c = λ h. absurd (false≢true h)
-
 pub returns-then-kind-lt-FIRST_TOKEN : goal.returns-then-kind-lt-FIRST_TOKEN
 unfolding unknown_kind
 returns-then-kind-lt-FIRST_TOKEN c = λ h. sound-node _ (sym c.is_unknown.ensures ∙ (or_false c.is_unknown.result _ c.if-is_unknown-kind.false).0) c.if-kind-lt-FIRST_TOKEN.true (eqb-true _ 0 h)
-
-pub returns-then-not-is_valid : goal.returns-then-not-is_valid
-unfolding unknown_kind
-returns-then-not-is_valid c = λ h. absurd (false≢true h)
 
 pub returns : goal.returns
 unfolding unknown_kind

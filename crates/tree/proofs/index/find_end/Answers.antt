@@ -9,9 +9,6 @@ loop-j-init c =
 pub returns-then-level_in-level : goal.returns-then-level_in-level
 returns-then-level_in-level c = ending-met c.loop-j.invariant c.requires.n_value c.loop-j-test.true c.level_in-level.ensures c.level_in.ensures c.if-level_in-level.true
 
-pub bounds-table-j : goal.bounds-table-j
-bounds-table-j c = omega (arith, c.requires.n_value, c.requires.indexed_from.room)
-
 pub loop-j-smaller : goal.loop-j-smaller
 loop-j-smaller c = ending-less c.loop-j.invariant c.requires.n_value c.loop-j-test.true c.level_in-level.ensures c.level_in.ensures c.requires.indexed_from
 

@@ -3,6 +3,3 @@ use Rattle.tree.proofs.index.index.Given as goal
 
 abbrev pub invariant-loop-i : goal.invariant-loop-i
 invariant-loop-i l = Filling l.image l.initial.table l.table l.start l.i
-
-abbrev pub decreases-loop-i : goal.decreases-loop-i
-decreases-loop-i l = l.i

@@ -1,10 +1,6 @@
 use mathlib.Core.Bool.{true, false}
-use native.Mathlib.Omega.{arith}
 use Rattle.tree.proofs.Search.{walking_on, walking-met, walking-all_lem, ident-none, ident-here, ident-later, ident_over}
 use Rattle.tree.proofs.refuse.lacks_ident.Goals as goal
-
-pub loop-j-init : goal.loop-j-init
-loop-j-init c = record { upto = omega arith; rest = rw c.level_in-name.ensures }
 
 pub returns-then-level_in-name : goal.returns-then-level_in-name
 returns-then-level_in-name c = walking-met true c.loop-j.invariant (search ident-none)

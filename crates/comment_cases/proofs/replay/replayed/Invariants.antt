@@ -1,6 +1,0 @@
-use Rattle.std.proofs.Common.{length}
-use Rattle.comment_cases.proofs.replay.replayed.Given as goal
-
--- what is left gets shorter
-abbrev pub decreases-loop-rest : goal.decreases-loop-rest
-decreases-loop-rest l = length l.rest
