@@ -20,10 +20,6 @@ mode_number Keeping = 1
 abbrev pub mode_of : ℕ → Option Mode
 mode_of n = cond (eqb n 0) (some Plain) (cond (eqb n 1) (some Keeping) none)
 
--- the mode with a number; the plain one where none has it
-abbrev pub mode_at : ℕ → Mode
-mode_at n = cond (eqb n 1) Keeping Plain
-
 -- the mode that was found, if any
 abbrev pub found : Result Mode UnknownMode → Option Mode
 found (Ok m) = some m

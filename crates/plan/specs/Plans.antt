@@ -74,6 +74,7 @@ abbrev pub or_halt : Option Halt → Halt → Option Halt
 or_halt None x = Some x
 or_halt (Some y) x = Some y
 
+-- a planner that is to halt for a reason
 abbrev pub halting : Halt → Planner → Planner
 halting x h = record { ops = h.ops; halt = or_halt h.halt x; operations = h.operations; runs = h.runs; mode = h.mode }
 
@@ -135,13 +136,9 @@ pub record Plans (s : Source) (q : Print) (o a : Planner) : Type 0 where
 abbrev pub LentPlanner : Type 0
 LentPlanner = Both (MutBor Planner) (MutBor Planner)
 
--- the tree with a lent image and a lent index
-abbrev pub source_in : LentTree → Source
-source_in tree = tree.entry.now
-
 -- the contract of a call that is lent the tree: it plans q
 abbrev pub PlansIn : LentPlanner → LentTree → Print → Type 0
-PlansIn planner tree q = Plans (source_in tree) q planner.entry.now planner.exit.now
+PlansIn planner tree q = Plans tree.entry.now q planner.entry.now planner.exit.now
 
 -- the contract of a call that is lent no tree: it plans q for every one
 abbrev pub PlansAny : LentPlanner → Print → Type 0

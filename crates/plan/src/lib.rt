@@ -15,7 +15,7 @@ ghost use Rattle.plan.specs.Ops.{token, note, note_kind, expand, op_items, opera
 ghost use Rattle.tree.specs.Source.{Source};
 ghost use Rattle.plan.specs.declared.Halt.TheVariants.{Stopped};
 ghost use Rattle.plan.specs.Load.{Carried};
-ghost use Rattle.plan.specs.Plans.{source_in, fresh, Plans, PlansIn, PlansAny, AddsAny, made, halting};
+ghost use Rattle.plan.specs.Plans.{fresh, Plans, PlansIn, PlansAny, AddsAny, made, halting};
 
 use comments::{CommentLocation, is_silent};
 use items::{Condition, Signal, signal_kind};
@@ -186,7 +186,7 @@ impl<'a> Planner<'a> {
     // Plans the comment of element t at a place, if it prints anything: each operation prints an item or more.
     fn plan_comment(&mut self, tree: &Tree, t: Element, loc: CommentLocation)
         requires { t.0 < operand_limit }
-        ensures { PlansIn self tree (says (note (source_in tree) t.0 (place loc))) }
+        ensures { PlansIn self tree (says (note tree.now t.0 (place loc))) }
     {
         let k = tree.kind_at(t.0);
         let s = tree.text_at(t.0);

@@ -5,7 +5,6 @@ ghost use Rattle.items.specs.Machine.{PutsIn, all_fit, sized, no_size};
 ghost use Rattle.comments.specs.Place.{place};
 ghost use Rattle.plan.specs.Words.{words};
 ghost use Rattle.plan.specs.Ops.{note, place_by, op_items, decoded};
-ghost use Rattle.plan.specs.Plans.{source_in};
 
 use super::words::{ALL, word_in};
 use super::{KINDS, NOTE_ABOVE, NOTE_INLINE, TOKEN, WORD};
@@ -33,8 +32,8 @@ fn put_note(
     loc: CommentLocation,
     p: Size,
 ) -> Size
-    requires { all_fit (note (tree.now) t (place loc)) p ≡ true }
-    ensures { PutsIn records texts p result (note (source_in tree) t (place loc)) }
+    requires { all_fit (note tree.now t (place loc)) p ≡ true }
+    ensures { PutsIn records texts p result (note tree.now t (place loc)) }
 {
     let k = tree.kind_at(t);
     let s = tree.text_at(t);
@@ -54,8 +53,8 @@ fn write_op(
 ) -> Size
     requires all_value { all.now ≡ joined_words words }
     requires listed_value { p.listed ≡ false }
-    requires p_value { all_fit (op_items (tree.now) op) p ≡ true }
-    ensures { PutsIn records texts p result (op_items (source_in tree) op) }
+    requires p_value { all_fit (op_items tree.now op) p ≡ true }
+    ensures { PutsIn records texts p result (op_items tree.now op) }
 {
     let k = op % KINDS;
     let v = op / KINDS;
@@ -74,8 +73,8 @@ fn write_op(
 // Writes the first n operations of a plan, as far as there is room. All numbers must fit.
 pub fn write_ops(records: &mut [u32], texts: &mut [u8], tree: &Tree, ops: &[u32], n: usize) -> Size
     requires n_in_bounds { n ≤ length ops.now }
-    requires false_value { all_fit (decoded (tree.now) ops.now n) (no_size false) ≡ true }
-    ensures { PutsIn records texts (no_size false) result (decoded (source_in tree) ops.now n) }
+    requires false_value { all_fit (decoded tree.now ops.now n) (no_size false) ≡ true }
+    ensures { PutsIn records texts (no_size false) result (decoded tree.now ops.now n) }
 {
     let all: &[u8] = &ALL;
     let mut p = no_size(false);
@@ -87,8 +86,8 @@ pub fn write_ops(records: &mut [u32], texts: &mut [u8], tree: &Tree, ops: &[u32]
 
 // The size after the comment of element t: it is put into no buffer.
 fn count_note(tree: &Tree, t: u32, loc: CommentLocation, p: Size) -> Size
-    requires { all_fit (note (tree.now) t (place loc)) p ≡ true }
-    ensures { result ≡ sized (note (source_in tree) t (place loc)) p }
+    requires { all_fit (note tree.now t (place loc)) p ≡ true }
+    ensures { result ≡ sized (note tree.now t (place loc)) p }
 {
     let mut records = [0u32; 0];
     let mut texts = [0u8; 0];
@@ -98,8 +97,8 @@ fn count_note(tree: &Tree, t: u32, loc: CommentLocation, p: Size) -> Size
 // The size after an operation; the formatter's own texts are lent. Counted by itself, since writing into no buffers takes longer.
 fn count_op(tree: &Tree, all: &[u8], op: u32, p: Size) -> Size
     requires all_value { all.now ≡ joined_words words }
-    requires p_value { all_fit (op_items (tree.now) op) p ≡ true }
-    ensures { result ≡ sized (op_items (source_in tree) op) p }
+    requires p_value { all_fit (op_items tree.now op) p ≡ true }
+    ensures { result ≡ sized (op_items tree.now op) p }
 {
     let k = op % KINDS;
     let v = op / KINDS;
@@ -118,8 +117,8 @@ fn count_op(tree: &Tree, all: &[u8], op: u32, p: Size) -> Size
 // The size of the first n operations of a plan, with their lines where they are listed. All numbers must fit.
 pub fn count_ops(tree: &Tree, ops: &[u32], n: usize, listed: bool) -> Size
     requires n_in_bounds { n ≤ length ops.now }
-    requires listed_value { all_fit (decoded (tree.now) ops.now n) (no_size listed) ≡ true }
-    ensures { result ≡ sized (decoded (source_in tree) ops.now n) (no_size listed) }
+    requires listed_value { all_fit (decoded tree.now ops.now n) (no_size listed) ≡ true }
+    ensures { result ≡ sized (decoded tree.now ops.now n) (no_size listed) }
 {
     let all: &[u8] = &ALL;
     let mut p = no_size(listed);
