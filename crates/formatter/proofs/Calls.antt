@@ -43,7 +43,9 @@ use Rattle.std.specs.declared.result.Result.{Result}
 use Rattle.std.specs.declared.result.Result.TheVariants.{Ok, Err}
 use Rattle.std.specs.Prelude.{is_some, IsErrAnd}
 use Rattle.formatter.specs.Reply.{ListAnswer, reply, reply_listed, reply_to}
-use Rattle.formatter.specs.Calls.{asked, Served, Attempted, most_records, Ready, planned_at, Whole, Halts, counts_with, ample, shortage}
+use Rattle.formatter.specs.declared.serve.Wanted.{Wanted}
+use Rattle.formatter.specs.declared.serve.Buffers.{Buffers}
+use Rattle.formatter.specs.Calls.{asked, Served, Serves, Attempted, most_records, Ready, planned_at, Whole, Halts, counts_with, ample, shortage}
 use Rattle.formatter.proofs.Counted.{records-bound, texts-bound}
 use Rattle.formatter.proofs.Fitted.{one-mark, sum_le, items-fit}
 use Rattle.formatter.proofs.Agree.{agree}
@@ -177,34 +179,33 @@ pub ample_by : (image : List ℕ) {m : ℕ} (w r : ℕ) → m ≡ most_records i
 unfolding ample
 ample_by image w r e = rw e refl
 
+-- what is answered and written, where the buffers are the ones that were lent
+pub lent-still : {w : Wanted} {image : List ℕ} {b b' : Buffers} {r : ListAnswer} → b'.records.ghost_name ≡ b.records.ghost_name → b'.texts.ghost_name ≡ b.texts.ghost_name → b'.listing.ghost_name ≡ b.listing.ghost_name
+    → Served w.mode image b.records.now b.texts.now b.listing.now w.listed b'.records.now b'.texts.now b'.listing.now (reply_to w.listed r) → Serves w image b b' r
+lent-still i j k h = record { served = h; lent = record { records = i; texts = j; listing = k } }
+
 -- ---- attempts
 
-module _ {m : Mode} {image rs ts ls rs' ts' ls' : List ℕ} {listed : Bool} where
+module _ {w : Wanted} {image : List ℕ} {b b' : Buffers} where
   -- an answer
-  pub answered-by : {room : Type 0} {r : ListAnswer} → Served m image rs ts ls listed rs' ts' ls' (reply_to listed r) → Attempted room m image rs ts ls listed rs' ts' ls' (Some r)
+  pub answered-by : {room : Type 0} {r : ListAnswer} → Serves w image b b' r → Attempted room w image b b' (Some r)
   answered-by {r = r} h = record {
     answers = λ s e. let i : r ≡ s = cc in rw (← i) h;
     fills = λ e. absurd (let z : ◌≡◌ {A = ℕ} 0 1 = cc in omega arith);
   }
 
   -- the same with room that implies the other's
-  pub attempted-as : {a b : Type 0} {r : std.Option ListAnswer} → (b → a) → Attempted a m image rs ts ls listed rs' ts' ls' r → Attempted b m image rs ts ls listed rs' ts' ls' r
+  pub attempted-as : {x y : Type 0} {r : std.Option ListAnswer} → (y → x) → Attempted x w image b b' r → Attempted y w image b b' r
   attempted-as f h = record { answers = h.answers; fills = λ e. let (n, k) = h.fills e in (λ x. n (f x), k) }
 
   -- where there is room, an answer
-  pub answering : {room : Type 0} (a : std.Option ListAnswer) → Attempted room m image rs ts ls listed rs' ts' ls' a → room → is_some a ≡ true
+  pub answering : {room : Type 0} (a : std.Option ListAnswer) → Attempted room w image b b' a → room → is_some a ≡ true
   answering (Some r) h x = refl
   answering None h x = absurd ((h.fills refl).0 x)
 
-module _ {m : Mode} {image rs ts ls : List ℕ} {listed : Bool} where
-  -- the buffers as they are
-  pub filled-by : {room : Type 0} → (room → ⊥) → Attempted room m image rs ts ls listed rs ts ls None
-  filled-by f = record { answers = λ r e. absurd (let z : ◌≡◌ {A = ℕ} 0 1 = cc in omega arith); fills = λ e. (f, (refl, (refl, refl))) }
-
   -- a second attempt where the first was full
-  pub after-full : {room : Type 0} {rs' ts' ls' rs'' ts'' ls'' : List ℕ} {a : std.Option ListAnswer} → Attempted room m image rs ts ls listed rs' ts' ls' a → a ≡ None
-      → {r : Answer} → Served m image rs' ts' ls' listed rs'' ts'' ls'' r → Served m image rs ts ls listed rs'' ts'' ls'' r
-  after-full h e k = let (_, (i, (j, l))) = h.fills e in rw (i, j, l) at k
+  pub after-full : {room : Type 0} {a : std.Option ListAnswer} → Attempted room w image b b' a → a ≡ None → {b'' : Buffers} {r : ListAnswer} → Serves w image b' b'' r → Serves w image b b'' r
+  after-full h e k = rw (h.fills e).1 at k
 
 -- ---- a plan
 
@@ -334,19 +335,19 @@ module _ {m : Mode} {image index ops : List ℕ} {q : Plan} {rs ts : List ℕ} (
 
 -- ---- the entries
 
-module _ {m : Mode} {image rs ts ls rs' ts' ls' : List ℕ} {listed : Bool} {a b : Answer} (h : Served m image rs ts ls listed rs' ts' ls' a) (i : b ≡ a) where
+module _ {m : Mode} {image rs ts ls rs' ts' ls' rs'' ts'' : List ℕ} {listed : Bool} {a b : Answer} (h : Served m image rs ts ls listed rs' ts' ls' a) (i : b ≡ a) (d : rs'' ≡ rs') (e : ts'' ≡ ts') where
   -- what holds of the buffers that come back with counts
-  holds : (c : Count) (n : Option ℕ) → b ≡ done c n → Answered m image rs' ts' c
-  holds c n e = rw (h.records, h.texts) (answered m image rs ts (asked listed ls) c n (sym h.answers ∙ sym i ∙ e))
+  holds : (c : Count) (n : Option ℕ) → b ≡ done c n → Answered m image rs'' ts'' c
+  holds c n k = rw (d, e, h.records, h.texts) (answered m image rs ts (asked listed ls) c n (sym h.answers ∙ sym i ∙ k))
 
   -- the clauses of the call that prints
-  pub stated : listed ≡ false → (b ≡ answer m image rs ts none) × ((rs' ≡ records_after m image rs ts none) × ((ts' ≡ texts_after m image rs ts none) × ((c : Count) (n : Option ℕ) → b ≡ done c n → Answered m image rs' ts' c)))
-  stated j = let k : asked listed ls ≡ none = rw j refl in (rw (← k) (i ∙ h.answers), (rw (← k) h.records, (rw (← k) h.texts, holds)))
+  pub stated : listed ≡ false → (b ≡ answer m image rs ts none) × ((rs'' ≡ records_after m image rs ts none) × ((ts'' ≡ texts_after m image rs ts none) × ((c : Count) (n : Option ℕ) → b ≡ done c n → Answered m image rs'' ts'' c)))
+  stated j = let k : asked listed ls ≡ none = rw j refl in (rw (← k) (i ∙ h.answers), (rw (← k) (d ∙ h.records), (rw (← k) (e ∙ h.texts), holds)))
 
   -- and of the one that lists
-  pub stated-list : listed ≡ true
-      → (b ≡ answer m image rs ts (some ls)) × ((rs' ≡ records_after m image rs ts (some ls)) × ((ts' ≡ texts_after m image rs ts (some ls)) × ((ls' ≡ listing_after m image rs ts ls) × ((c : Count) (n : Option ℕ) → b ≡ done c n → Answered m image rs' ts' c))))
-  stated-list j = let k : asked listed ls ≡ some ls = rw j refl in (rw (← k) (i ∙ h.answers), (rw (← k) h.records, (rw (← k) h.texts, (h.listing ∙ rw j refl, holds))))
+  pub stated-list : listed ≡ true → {ls'' : List ℕ} → ls'' ≡ ls'
+      → (b ≡ answer m image rs ts (some ls)) × ((rs'' ≡ records_after m image rs ts (some ls)) × ((ts'' ≡ texts_after m image rs ts (some ls)) × ((ls'' ≡ listing_after m image rs ts ls) × ((c : Count) (n : Option ℕ) → b ≡ done c n → Answered m image rs'' ts'' c))))
+  stated-list j f = let k : asked listed ls ≡ some ls = rw j refl in (rw (← k) (i ∙ h.answers), (rw (← k) (d ∙ h.records), (rw (← k) (e ∙ h.texts), (f ∙ h.listing ∙ rw j refl, holds))))
 
 -- the answer of the call that lists
 pub listed-reply : (r : ListAnswer) → reply_listed r ≡ reply_to true r

@@ -3,6 +3,8 @@ use Rattle.std.specs.Prelude.{◌≡◌, Bool, true, false, cond, ◌&&◌, List
 use Rattle.std.specs.declared.option.Option as std
 use Rattle.std.specs.declared.result.Result.{Result}
 use Rattle.std.proofs.Math.Option.{Option, none, some}
+use Rattle.std.specs.Borrow.{MutBor}
+use denote.Triple.Both.{Both}
 use Rattle.text.specs.Lent.{Lent, LentMut}
 use Rattle.numbers.specs.declared.mode.Mode.{Mode}
 use Rattle.numbers.specs.declared.Element.{Element}
@@ -20,6 +22,7 @@ use Rattle.printer.specs.Print.{source_file}
 use Rattle.items.specs.declared.Count.{Count}
 use Rattle.numbers.specs.declared.refusal.Reason.{Reason}
 use Rattle.formatter.specs.declared.serve.Wanted.{Wanted}
+use Rattle.formatter.specs.declared.serve.Buffers.{Buffers}
 use Rattle.plan.specs.declared.Plan.{Plan}
 use Rattle.plan.specs.declared.Halt.{Halt}
 use Rattle.plan.specs.declared.Halt.TheVariants.{Stopped, Full}
@@ -66,15 +69,31 @@ pub record Served (m : Mode) (image rs ts ls : List ℕ) (listed : Bool) (rs' ts
   pub texts : ts' ≡ texts_after m image rs ts (asked listed ls)
   pub listing : ls' ≡ cond listed (listing_after m image rs ts ls) ls
 
+-- buffers that are lent together
+abbrev pub buffers : MutBor (List ℕ) → MutBor (List ℕ) → MutBor (List ℕ) → Buffers
+buffers records texts listing = record { records = records; texts = texts; listing = listing }
+
+-- Buffers after a call are the ones that were lent.
+pub record SameLent (b b' : Buffers) : Type 0 where
+  pub records : b'.records.ghost_name ≡ b.records.ghost_name
+  pub texts : b'.texts.ghost_name ≡ b.texts.ghost_name
+  pub listing : b'.listing.ghost_name ≡ b.listing.ghost_name
+
+-- An answer is the one to what buffers held and what is wanted, and so is what they hold after it.
+pub record Serves (w : Wanted) (image : List ℕ) (b b' : Buffers) (r : ListAnswer) : Type 0 where
+  pub served : Served w.mode image b.records.now b.texts.now b.listing.now w.listed b'.records.now b'.texts.now b'.listing.now (reply_to w.listed r)
+  pub lent : SameLent b b'
+
+abbrev pub LentBuffers : Type 0
+LentBuffers = Both (MutBor Buffers) (MutBor Buffers)
+
 -- the same of what is lent and wanted
-abbrev pub ServedIn : Lent → LentMut → LentMut → LentMut → Wanted → ListAnswer → Type 0
-ServedIn image records texts listing w r =
-    Served w.mode image.entry.now records.entry.now texts.entry.now listing.entry.now w.listed records.exit.now texts.exit.now listing.exit.now (reply_to w.listed r)
+abbrev pub ServedIn : Lent → LentBuffers → Wanted → ListAnswer → Type 0
+ServedIn image b w r = Serves w image.entry.now b.entry.now b.exit.now r
 
 -- the same of a tree whose image is lent with its index
-abbrev pub ServedBy : LentTree → LentMut → LentMut → LentMut → Wanted → ListAnswer → Type 0
-ServedBy tree records texts listing w r =
-    Served w.mode tree.entry.now.image records.entry.now texts.entry.now listing.entry.now w.listed records.exit.now texts.exit.now listing.exit.now (reply_to w.listed r)
+abbrev pub ServedBy : LentTree → LentBuffers → Wanted → ListAnswer → Type 0
+ServedBy tree b w r = Serves w tree.entry.now.image b.entry.now b.exit.now r
 
 -- ---- plans
 
@@ -112,19 +131,17 @@ pub record Foresees (m : Mode) (image index ops : List ℕ) (o : Result Plan Hal
 
 -- What an attempt comes to: an answer and the buffers that come back are those of the definition; or there was no room, and the buffers
 -- come back as they were.
-pub record Attempted (room : Type 0) (m : Mode) (image rs ts ls : List ℕ) (listed : Bool) (rs' ts' ls' : List ℕ) (a : std.Option ListAnswer) : Type 0 where
-  pub answers : (r : ListAnswer) → a ≡ Some r → Served m image rs ts ls listed rs' ts' ls' (reply_to listed r)
-  pub fills : a ≡ None → (room → ⊥) × ((rs' ≡ rs) × ((ts' ≡ ts) × (ls' ≡ ls)))
+pub record Attempted (room : Type 0) (w : Wanted) (image : List ℕ) (b b' : Buffers) (a : std.Option ListAnswer) : Type 0 where
+  pub answers : (r : ListAnswer) → a ≡ Some r → Serves w image b b' r
+  pub fills : a ≡ None → (room → ⊥) × (b' ≡ b)
 
 -- the same of what is lent, in an array of n operations: there is room where it has more than the image prints at most
-abbrev pub AttemptedIn : ℕ → Lent → LentMut → LentMut → LentMut → Wanted → std.Option ListAnswer → Type 0
-AttemptedIn n image records texts listing w a =
-    Attempted (most_records image.entry.now < n) w.mode image.entry.now records.entry.now texts.entry.now listing.entry.now w.listed records.exit.now texts.exit.now listing.exit.now a
+abbrev pub AttemptedIn : ℕ → Lent → LentBuffers → Wanted → std.Option ListAnswer → Type 0
+AttemptedIn n image b w a = Attempted (most_records image.entry.now < n) w image.entry.now b.entry.now b.exit.now a
 
 -- the same in arrays of a size or larger ones: in the largest there is room
-abbrev pub TriedIn : ℕ → Lent → LentMut → LentMut → LentMut → Wanted → std.Option ListAnswer → Type 0
-TriedIn size image records texts listing w a =
-    Attempted (226305 ≤ size) w.mode image.entry.now records.entry.now texts.entry.now listing.entry.now w.listed records.exit.now texts.exit.now listing.exit.now a
+abbrev pub TriedIn : ℕ → Lent → LentBuffers → Wanted → std.Option ListAnswer → Type 0
+TriedIn size image b w a = Attempted (226305 ≤ size) w image.entry.now b.entry.now b.exit.now a
 
 -- the counts of items by their size and their runs, with two marks for each
 abbrev pub counts_with : Size → ℕ → Count

@@ -12,7 +12,7 @@ ghost use Rattle.formatter.specs.Calls.{answer_in, records_in, texts_in, listing
 use items::Count;
 use numbers::mode::Mode;
 use numbers::refusal::Refusal;
-use serve::{Wanted, serve};
+use serve::{Buffers, Wanted, serve};
 
 // The counts of what was printed, and the bytes of its listing.
 #[derive(Clone, Copy)]
@@ -35,11 +35,12 @@ pub fn print_items(
     ensures answered_in { AnsweredIn image mode records texts (reply result) }
 {
     let mut unasked = [0u8; 0];
+    let mut buffers = Buffers::new(records, texts, &mut unasked);
     let wanted = Wanted {
         mode,
         listed: false,
     };
-    let done = serve(image, records, texts, &mut unasked, wanted)?;
+    let done = serve(image, &mut buffers, wanted)?;
     Ok(done.counts)
 }
 
@@ -57,6 +58,7 @@ pub fn list_items(
     ensures listing_after { listing.new ≡ listing_in image mode records texts listing }
     ensures answered_in { AnsweredIn image mode records texts (reply_listed result) }
 {
+    let mut buffers = Buffers::new(records, texts, listing);
     let wanted = Wanted { mode, listed: true };
-    serve(image, records, texts, listing, wanted)
+    serve(image, &mut buffers, wanted)
 }

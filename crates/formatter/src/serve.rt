@@ -3,7 +3,7 @@ ghost use Rattle.std.specs.Prelude.{◌≡◌, ◌+◌, ◌*◌, ◌<◌, ◌≤
 ghost use Rattle.std.proofs.Math.Option.{none};
 ghost use Rattle.tree.specs.Refusal.{refusal};
 ghost use Rattle.tree.specs.Index.{Indexed};
-ghost use Rattle.formatter.specs.Calls.{ServedIn, ServedBy, AttemptedIn, TriedIn, most_records, Ready, Foresees, Whole, counts_with, ample, shortage};
+ghost use Rattle.formatter.specs.Calls.{buffers, ServedIn, ServedBy, AttemptedIn, TriedIn, most_records, Ready, Foresees, Whole, counts_with, ample, shortage};
 
 use crate::Listed;
 use items::{Count, RECORD, Size};
@@ -53,45 +53,58 @@ const EACH_BYTE: usize = 4;
 // Bytes of text for each record, at most.
 const EACH_RECORD: usize = 39;
 
-// What a call asks for: a mode, and whether what is printed is listed.
+// What a call asks for: a mode, and whether what is printed is listed, which the listing's buffer does not tell.
 #[derive(Clone, Copy)]
 pub struct Wanted {
     pub mode: Mode,
     pub listed: bool,
 }
 
+// The lent buffers: records, texts and a listing; where none is asked for, one of no bytes. In an `Option`, or at the lifetime of the
+// texts, the caller would not learn what the listing's buffer ends as.
+#[derive(Drop)]
+pub struct Buffers<'a, 'l> {
+    records: &'a mut [u32],
+    texts: &'a mut [u8],
+    listing: &'l mut [u8],
+}
+
+impl<'a, 'l> Buffers<'a, 'l> {
+    pub fn new(
+        records: &'a mut [u32],
+        texts: &'a mut [u8],
+        listing: &'l mut [u8],
+    ) -> Buffers<'a, 'l>
+        ensures { result ≡ buffers records.entry texts.entry listing.entry }
+    {
+        Buffers {
+            records,
+            texts,
+            listing,
+        }
+    }
+}
+
 // The answer to a tree image, which prints it into the lent buffers, and lists what was printed if that is asked for.
-pub fn serve(
-    image: &[u8],
-    records: &mut [u32],
-    texts: &mut [u8],
-    listing: &mut [u8],
-    wanted: Wanted,
-) -> Result<Listed, Refusal>
-    ensures { ServedIn image records texts listing wanted result }
+pub fn serve(image: &[u8], buffers: &mut Buffers, wanted: Wanted) -> Result<Listed, Refusal>
+    ensures { ServedIn image buffers wanted result }
 {
     match tree::refusal(image) {
         Err(r) => Err(r),
-        Ok(_) => serve_passed(image, records, texts, listing, wanted),
+        Ok(_) => serve_passed(image, buffers, wanted),
     }
 }
 
 // The same of an image that passed the tests 1 to 9.
-fn serve_passed(
-    image: &[u8],
-    records: &mut [u32],
-    texts: &mut [u8],
-    listing: &mut [u8],
-    wanted: Wanted,
-) -> Result<Listed, Refusal>
+fn serve_passed(image: &[u8], buffers: &mut Buffers, wanted: Wanted) -> Result<Listed, Refusal>
     requires { refusal image.now ≡ none }
-    ensures { ServedIn image records texts listing wanted result }
+    ensures { ServedIn image buffers wanted result }
 {
-    if let Some(answer) = attempt_sized(image, records, texts, listing, wanted, SMALLEST) {
+    if let Some(answer) = attempt_sized(image, buffers, wanted, SMALLEST) {
         return answer;
     }
     // The largest has room for every image, so that this one answers.
-    attempt_sized(image, records, texts, listing, wanted, LARGEST).unwrap()
+    attempt_sized(image, buffers, wanted, LARGEST).unwrap()
 }
 
 // How many records an image prints at most.
@@ -108,43 +121,39 @@ fn most_records(image: &[u8]) -> usize
 // no stack for a large one.
 fn attempt_sized(
     image: &[u8],
-    records: &mut [u32],
-    texts: &mut [u8],
-    listing: &mut [u8],
+    buffers: &mut Buffers,
     wanted: Wanted,
     size: usize,
 ) -> Option<Result<Listed, Refusal>>
     requires image_value { refusal image.now ≡ none }
     requires le_size { 1 ≤ size }
-    ensures { TriedIn size image records texts listing wanted result }
+    ensures { TriedIn size image buffers wanted result }
 {
     if size < LIKELY * (element_count(image) as usize) {
-        return attempt_sized(image, records, texts, listing, wanted, NEXT_SIZE * size);
+        return attempt_sized(image, buffers, wanted, NEXT_SIZE * size);
     }
     match size {
-        SMALLEST => attempt::<SMALLEST, SMALLEST_INDEX>(image, records, texts, listing, wanted),
-        SMALL => attempt::<SMALL, SMALL_INDEX>(image, records, texts, listing, wanted),
-        MIDDLE => attempt::<MIDDLE, MIDDLE_INDEX>(image, records, texts, listing, wanted),
-        LARGE => attempt::<LARGE, LARGE_INDEX>(image, records, texts, listing, wanted),
-        _ => attempt::<LARGEST, LARGE_INDEX>(image, records, texts, listing, wanted),
+        SMALLEST => attempt::<SMALLEST, SMALLEST_INDEX>(image, buffers, wanted),
+        SMALL => attempt::<SMALL, SMALL_INDEX>(image, buffers, wanted),
+        MIDDLE => attempt::<MIDDLE, MIDDLE_INDEX>(image, buffers, wanted),
+        LARGE => attempt::<LARGE, LARGE_INDEX>(image, buffers, wanted),
+        _ => attempt::<LARGEST, LARGE_INDEX>(image, buffers, wanted),
     }
 }
 
 // The same in arrays of so many operations and of so many words for the index.
 fn attempt<const OPERATIONS: usize, const INDEX: usize>(
     image: &[u8],
-    records: &mut [u32],
-    texts: &mut [u8],
-    listing: &mut [u8],
+    buffers: &mut Buffers,
     wanted: Wanted,
 ) -> Option<Result<Listed, Refusal>>
     requires lay { OPERATIONS + INDEX < 2 ^ 61 }
     requires ready { Ready image.now INDEX }
-    ensures { AttemptedIn OPERATIONS image records texts listing wanted result }
+    ensures { AttemptedIn OPERATIONS image buffers wanted result }
 {
     let mut table = [0u32; INDEX];
     let mut ops = [0u32; OPERATIONS];
-    serve_in(image, &mut table, &mut ops, records, texts, listing, wanted)
+    serve_in(image, &mut table, &mut ops, buffers, wanted)
 }
 
 // The same in lent arrays: the index is written into the table, and the tree is planned.
@@ -152,13 +161,11 @@ fn serve_in(
     image: &[u8],
     table: &mut [u32],
     ops: &mut [u32],
-    records: &mut [u32],
-    texts: &mut [u8],
-    listing: &mut [u8],
+    buffers: &mut Buffers,
     wanted: Wanted,
 ) -> Option<Result<Listed, Refusal>>
     requires { Ready image.now (length table.old) }
-    ensures { AttemptedIn (length ops.old) image records texts listing wanted result }
+    ensures { AttemptedIn (length ops.old) image buffers wanted result }
 {
     tree::index::index(image, table);
     let tree = Tree {
@@ -166,7 +173,7 @@ fn serve_in(
         index: table,
     };
     match plan_tree(&tree, wanted.mode, ops) {
-        Ok(plan) => Some(serve_planned(&tree, ops, plan, records, texts, listing, wanted)),
+        Ok(plan) => Some(serve_planned(&tree, ops, plan, buffers, wanted)),
         Err(Halt::Stopped(element)) => Some(Err(Refusal {
             reason: Reason::Stopped,
             element,
@@ -203,17 +210,21 @@ fn serve_planned(
     tree: &Tree,
     ops: &[u32],
     plan: Plan,
-    records: &mut [u32],
-    texts: &mut [u8],
-    listing: &mut [u8],
+    buffers: &mut Buffers,
     wanted: Wanted,
 ) -> Result<Listed, Refusal>
     requires { Whole wanted.mode tree.now.image tree.now.index ops.now plan }
-    ensures { ServedBy tree records texts listing wanted result }
+    ensures { ServedBy tree buffers wanted result }
 {
     let n = plan.operations;
     let listed = wanted.listed;
-    if !listed & is_ample(tree.image, records.len(), texts.len()) {
+    let records = &mut *buffers.records;
+    let texts = &mut *buffers.texts;
+    let listing = &mut *buffers.listing;
+    let words = records.len();
+    let room = texts.len();
+    let size = listing.len();
+    if !listed & is_ample(tree.image, words, room) {
         let p = write_ops(records, texts, tree, ops, n);
         return Ok(Listed {
             counts: counts_with(p, plan.runs),
@@ -223,8 +234,7 @@ fn serve_planned(
     let p = count_ops(tree, ops, n, listed);
     let counts = counts_with(p, plan.runs);
     let bytes = listing_length(counts, p.lines);
-    let size = listing.len();
-    fit(counts, bytes, records.len(), texts.len(), size, listed)?;
+    fit(counts, bytes, words, room, size, listed)?;
     write_ops(records, texts, tree, ops, n);
     if listed {
         write_listing(records, texts, counts, listing);
