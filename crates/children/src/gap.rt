@@ -5,6 +5,7 @@ ghost use Rattle.children.specs.Gaps.{is_child, is_foreign};
 ghost use Rattle.children.specs.Lead.{Leads};
 ghost use Rattle.children.specs.Spans.{Spans};
 
+use super::between::Bounds;
 use super::tally::Tally;
 use super::turn::{space_of, turn_of};
 use std::ops::ControlFlow::{Break, Continue};
@@ -52,11 +53,12 @@ pub(crate) fn ended_by(s: Span, end: End) -> Span
     Span { end, ..s }
 }
 
-// The gap that begins at from, of a reading up to b: behind a child, or (not after) at the reading's start.
-pub fn gap(tree: &Tree, w: Kinds, loose: bool, after: bool, from: u32, b: u32) -> Span
-    requires { Region tree.now.image tree.now.index from b }
-    ensures { Spans tree.now.image tree.now.index w loose after from b result }
+// The gap that begins at from, of a reading: behind a child, or (not after) at the reading's start.
+pub fn gap(tree: &Tree, w: Kinds, z: Bounds, after: bool, from: u32) -> Span
+    requires { Region tree.now.image tree.now.index from z.to }
+    ensures { Spans tree.now.image tree.now.index w z.loose after from z.to result }
 {
+    let b = z.to;
     let mut started = !after;
     let mut had = after;
     let mut cut = from;
@@ -64,7 +66,7 @@ pub fn gap(tree: &Tree, w: Kinds, loose: bool, after: bool, from: u32, b: u32) -
     let mut tally = Tally::NOTHING;
     while j < b {
         let f = space_of(tree, j);
-        let go = match turn_of(tree, w, loose, started, had, j, f) {
+        let go = match turn_of(tree, w, z.loose, started, had, j, f) {
             Continue(go) => go,
             Break(end) => {
                 return Span {
@@ -98,15 +100,17 @@ pub fn gap(tree: &Tree, w: Kinds, loose: bool, after: bool, from: u32, b: u32) -
 }
 
 // The first gap of a reading that is handed a trailing list: it holds errors only, and cut and to are one.
-pub fn lead(tree: &Tree, w: Kinds, loose: bool, from: u32, b: u32) -> Span
-    requires { Region tree.now.image tree.now.index from b }
-    ensures { Leads tree.now.image tree.now.index w loose from b result }
+pub fn lead(tree: &Tree, w: Kinds, z: Bounds) -> Span
+    requires { Region tree.now.image tree.now.index z.from z.to }
+    ensures { Leads tree.now.image tree.now.index w z.loose z.from z.to result }
 {
+    let from = z.from;
+    let b = z.to;
     let mut j = from;
     let mut tally = Tally::NOTHING;
     while j < b {
         let f = space_of(tree, j);
-        if let Break(end) = turn_of(tree, w, loose, true, false, j, f) {
+        if let Break(end) = turn_of(tree, w, z.loose, true, false, j, f) {
             return Span {
                 from,
                 cut: j,

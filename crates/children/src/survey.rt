@@ -7,6 +7,7 @@ ghost use Rattle.children.specs.Gaps.{is_foreign};
 ghost use Rattle.children.specs.Lead.{SurveyedAfter};
 ghost use Rattle.children.specs.Spans.{Lies, gap_at, Surveying, Surveyed, SurveyedFrom};
 
+use super::between::Bounds;
 use super::gap::{End, Span, at_child, at_foreign, ended_by, gap, lead};
 use super::newlines::newlines_at;
 use tree::Tree;
@@ -58,18 +59,10 @@ fn alone(s: Span, blank: bool) -> Outline
     }
 }
 
-// The rest of a reading up to b, from a gap on, behind some children of which one triggers many lines or none.
-fn survey_from(
-    tree: &Tree,
-    w: Kinds,
-    loose: bool,
-    first: Span,
-    before: u32,
-    already: bool,
-    b: u32,
-) -> Outline
-    requires { Surveying tree.now.image tree.now.index b first before }
-    ensures { SurveyedFrom tree.now.image tree.now.index w loose b first before already result }
+// The rest of a reading, from a gap on, behind some children of which one triggers many lines or none.
+fn survey_from(tree: &Tree, w: Kinds, z: Bounds, first: Span, before: u32, already: bool) -> Outline
+    requires { Surveying tree.now.image tree.now.index z.to first before }
+    ensures { SurveyedFrom tree.now.image tree.now.index w z.loose z.to first before already result }
 {
     let mut s = first;
     let mut children = before;
@@ -78,7 +71,7 @@ fn survey_from(
     while at_child(s) {
         many = many | (n >= 1);
         children += 1;
-        s = gap(tree, w, loose, true, tree.end_at(s.to), b);
+        s = gap(tree, w, z, true, tree.end_at(s.to));
         n = newlines_at(tree, s);
     }
     if at_foreign(s) {
@@ -92,22 +85,22 @@ fn survey_from(
     }
 }
 
-// The whole of a reading from `from` up to b.
-pub fn survey(tree: &Tree, w: Kinds, loose: bool, from: u32, b: u32) -> Outline
-    requires { Region tree.now.image tree.now.index from b }
-    ensures { Surveyed tree.now.image tree.now.index w loose from b result }
+// The whole of a reading.
+pub fn survey(tree: &Tree, w: Kinds, z: Bounds) -> Outline
+    requires { Region tree.now.image tree.now.index z.from z.to }
+    ensures { Surveyed tree.now.image tree.now.index w z.loose z.from z.to result }
 {
-    let s = gap(tree, w, loose, false, from, b);
-    survey_from(tree, w, loose, s, 0, false, b)
+    let s = gap(tree, w, z, false, z.from);
+    survey_from(tree, w, z, s, 0, false)
 }
 
-// The whole of a reading from `from` up to b whose trailing list is what waits in the gap t.
-pub fn survey_after(tree: &Tree, w: Kinds, loose: bool, t: Span, from: u32, b: u32) -> Outline
-    requires region { Region tree.now.image tree.now.index from b }
+// The whole of a reading whose trailing list is what waits in the gap t.
+pub fn survey_after(tree: &Tree, w: Kinds, z: Bounds, t: Span) -> Outline
+    requires region { Region tree.now.image tree.now.index z.from z.to }
     requires lies { Lies tree.now.image tree.now.index t }
-    ensures { SurveyedAfter tree.now.image tree.now.index w loose t from b result }
+    ensures { SurveyedAfter tree.now.image tree.now.index w z.loose t z.from z.to result }
 {
-    let first = lead(tree, w, loose, from, b);
+    let first = lead(tree, w, z);
     if at_foreign(first) {
         return alone(first, false);
     }
@@ -119,6 +112,6 @@ pub fn survey_after(tree: &Tree, w: Kinds, loose: bool, t: Span, from: u32, b: u
         return alone(barred, false);
     }
     let many = waiting_newlines(tree, t) >= 1;
-    let next = gap(tree, w, loose, true, tree.end_at(first.to), b);
-    survey_from(tree, w, loose, next, 1, many, b)
+    let next = gap(tree, w, z, true, tree.end_at(first.to));
+    survey_from(tree, w, z, next, 1, many)
 }

@@ -5,6 +5,7 @@ ghost use Rattle.children.specs.Spans.{Surveying};
 
 use super::sequence::put_image;
 use cases::front;
+use children::between::Bounds;
 use children::gap::{Span, at_child, gap, lead};
 use children::newlines::{blank_line, newlines_at};
 use children::survey::{Outline, is_stopped, survey, survey_after};
@@ -97,8 +98,8 @@ fn mix_outline(tree: &Tree, o: Outline, h: u32) -> u32 {
 }
 
 // The children from the one behind a gap on: number, blank line, many lines, what waited, what is inline.
-fn mix_walk(tree: &Tree, w: Kinds, loose: bool, first: Span, b: u32, h: u32) -> u32
-    requires { Surveying tree.now.image tree.now.index b first 0 }
+fn mix_walk(tree: &Tree, w: Kinds, z: Bounds, first: Span, h: u32) -> u32
+    requires { Surveying tree.now.image tree.now.index z.to first 0 }
 {
     let mut s = first;
     let mut n = h;
@@ -106,45 +107,45 @@ fn mix_walk(tree: &Tree, w: Kinds, loose: bool, first: Span, b: u32, h: u32) -> 
         n = mix(mix(n, s.to), bit(blank_line(tree, s)));
         n = mix(n, bit(newlines_at(tree, s) >= 1));
         n = mix_waiting(tree, s, n);
-        s = gap(tree, w, loose, true, tree.end_at(s.to), b);
+        s = gap(tree, w, z, true, tree.end_at(s.to));
         n = mix_inline(tree, s, n);
     }
     n
 }
 
 // A reading with no trailing list.
-fn plain(tree: &Tree, loose: bool, a: u32, b: u32, h: u32) -> u32
-    requires { Region tree.now.image tree.now.index a b }
+fn plain(tree: &Tree, z: Bounds, h: u32) -> u32
+    requires { Region tree.now.image tree.now.index z.from z.to }
 {
     let w = kinds_of(Class::Expr);
-    let o = survey(tree, w, loose, a, b);
+    let o = survey(tree, w, z);
     let n = mix_outline(tree, o, h);
     if is_stopped(o) {
         return n;
     }
-    let s = gap(tree, w, loose, false, a, b);
-    mix_walk(tree, w, loose, s, b, n)
+    let s = gap(tree, w, z, false, z.from);
+    mix_walk(tree, w, z, s, n)
 }
 
 // A reading whose trailing list is what waits in the first gap of the reading without one.
-fn trailing(tree: &Tree, loose: bool, a: u32, b: u32, h: u32) -> u32
-    requires { Region tree.now.image tree.now.index a b }
+fn trailing(tree: &Tree, z: Bounds, h: u32) -> u32
+    requires { Region tree.now.image tree.now.index z.from z.to }
 {
     let w = kinds_of(Class::Expr);
-    let t = gap(tree, w, loose, false, a, b);
-    let o = survey_after(tree, w, loose, t, a, b);
+    let t = gap(tree, w, z, false, z.from);
+    let o = survey_after(tree, w, z, t);
     let n = mix_outline(tree, o, h);
     if is_stopped(o) {
         return n;
     }
-    let s = lead(tree, w, loose, a, b);
+    let s = lead(tree, w, z);
     if !at_child(s) {
         return n;
     }
     let many = t.tally.before >= 1;
     let m = mix_waiting(tree, t, mix(mix(n, s.to), bit(many)));
-    let next = gap(tree, w, loose, true, tree.end_at(s.to), b);
-    mix_walk(tree, w, loose, next, b, mix_inline(tree, next, m))
+    let next = gap(tree, w, z, true, tree.end_at(s.to));
+    mix_walk(tree, w, z, next, mix_inline(tree, next, m))
 }
 
 // The four readings of the children of the first element, behind what the digests hold.
@@ -155,13 +156,20 @@ fn answers(tree: &Tree, d: Digests) -> Digests
     if tree::element_count(tree.image) <= node {
         return d;
     }
-    let a = node + 1;
-    let b = tree.end_at(node);
+    let strict = Bounds {
+        from: node + 1,
+        to: tree.end_at(node),
+        loose: false,
+    };
+    let loose = Bounds {
+        loose: true,
+        ..strict
+    };
     Digests {
-        strict: plain(tree, false, a, b, d.strict),
-        loose: plain(tree, true, a, b, d.loose),
-        strict_after: trailing(tree, false, a, b, d.strict_after),
-        loose_after: trailing(tree, true, a, b, d.loose_after),
+        strict: plain(tree, strict, d.strict),
+        loose: plain(tree, loose, d.loose),
+        strict_after: trailing(tree, strict, d.strict_after),
+        loose_after: trailing(tree, loose, d.loose_after),
     }
 }
 

@@ -4,7 +4,7 @@ use Rattle.children_cases.proofs.answer.mix_walk.Given as goal
 
 -- a walk may go on from the gap
 abbrev pub invariant-loop-w : goal.invariant-loop-w
-invariant-loop-w l = Surveying l.tree.image l.tree.index l.b l.s 0
+invariant-loop-w l = Surveying l.tree.image l.tree.index l.z.to l.s 0
 
 abbrev pub decreases-loop-w : goal.decreases-loop-w
-decreases-loop-w l = l.b - l.s.to
+decreases-loop-w l = l.z.to - l.s.to
