@@ -3,6 +3,7 @@
 
 mod lists;
 mod look;
+mod node;
 mod pieces;
 mod printers;
 mod rows;
@@ -12,14 +13,13 @@ ghost use Rattle.tree.specs.Answer.{found};
 ghost use Rattle.tree.specs.Index.{Indexed, Region};
 ghost use Rattle.plan.specs.Plans.{PlansIn};
 ghost use Rattle.printer.specs.Print.{source_file};
-ghost use Rattle.printer.specs.Under.{At, parts_of};
 ghost use Rattle.printer.specs.Reads.{Has};
-ghost use Rattle.printer.specs.Clauses.{whole_in};
+ghost use Rattle.printer.specs.Clauses.{parts_in, whole_in, PlansOf};
 
 use children::around::{Notes, trivia_after, trivia_before};
 use comments::CommentLocation;
 use items::Signal;
-use look::{first_in, first_of};
+use node::Node;
 use numbers::Element;
 use plan::Planner;
 use plan::notes::plan_notes;
@@ -36,9 +36,13 @@ pub fn plan_source(planner: &mut Planner, tree: &Tree)
     requires { Indexed tree.now.image tree.now.index }
     ensures { PlansIn planner tree (source_file (tree_of tree.now.image)) }
 {
-    let e = first_of(tree, Element(ROOT), Class::Expr);
-    let a = first_in(tree, Element(ROOT));
-    let b = tree.end_at(ROOT);
+    let root = Node {
+        tree,
+        element: Element(ROOT),
+    };
+    let e = root.first_of(Class::Expr);
+    let a = root.start();
+    let b = root.end();
     let before = trivia_before(tree, e, a, b);
     let after = trivia_after(tree, e, a, b);
     let f = before.foreign;
@@ -51,29 +55,28 @@ pub fn plan_source(planner: &mut Planner, tree: &Tree)
         planner.stop_at(x);
         return;
     }
-    plan_whole(planner, tree, e, before, after);
+    plan_whole(planner, root, e, before, after);
 }
 
-// The comments before the expression, the expression, and the comments behind it.
-fn plan_whole(planner: &mut Planner, tree: &Tree, e: Option<Element>, before: Notes, after: Notes)
-    requires at { At tree.now.image tree.now.index 0 }
-    requires has { Has (parts_of tree.now.image tree.now.index 0) (found e) }
-    requires region { Region tree.now.image tree.now.index before.from before.to }
-    requires region_2 { Region tree.now.image tree.now.index after.from after.to }
-    ensures { PlansIn planner tree (whole_in tree before (found e) after) }
+// The comments before the expression of a node, the expression, and the comments behind it.
+fn plan_whole(planner: &mut Planner, n: Node, e: Option<Element>, before: Notes, after: Notes)
+    requires has { Has (parts_in n) (found e) }
+    requires before { Region n.tree.now.image n.tree.now.index before.from before.to }
+    requires after { Region n.tree.now.image n.tree.now.index after.from after.to }
+    ensures { PlansOf planner n.entry (whole_in n.entry before (found e) after) }
 {
     plan_notes(
         planner,
-        tree,
+        n.tree,
         before.from,
         before.to,
         CommentLocation::AboveItem,
     );
-    part(planner, tree, Element(ROOT), e, MISSING_EXPR);
+    part(planner, n, e, MISSING_EXPR);
     planner.plan_signal(Signal::NewLine);
     plan_notes(
         planner,
-        tree,
+        n.tree,
         after.from,
         after.to,
         CommentLocation::EndOfItems,

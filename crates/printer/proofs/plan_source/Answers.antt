@@ -5,26 +5,23 @@ use Rattle.printer.proofs.Looking.{first-has, none_has, ends-has}
 use Rattle.printer.proofs.Sources.{root_at, source-before, source-behind, source-whole, before-region, after-region}
 use Rattle.printer.proofs.plan_source.Goals as goal
 
-pub first_of-e-requires : goal.first_of-e-requires
-first_of-e-requires c = root_at c.requires
-
-pub first_in-a-requires : goal.first_in-a-requires
-first_in-a-requires c = root_at c.requires
+pub invariant_of-root : goal.invariant_of-root
+invariant_of-root c = record { at = root_at c.requires }
 
 pub trivia_before-before-requires : goal.trivia_before-before-requires
-trivia_before-before-requires c = ends-has (root_at c.requires) c.first_in-a.ensures c.end_at-b.ensures (first-has _ _ c.first_of-e.ensures) (none_has _ refl)
+trivia_before-before-requires c = ends-has (root_at c.requires) c.start-a.ensures c.end-b.ensures (first-has _ _ c.first_of-e.ensures) (none_has _ refl)
 
 pub trivia_after-after-requires : goal.trivia_after-after-requires
-trivia_after-after-requires c = ends-has (root_at c.requires) c.first_in-a.ensures c.end_at-b.ensures (first-has _ _ c.first_of-e.ensures) (none_has _ refl)
+trivia_after-after-requires c = ends-has (root_at c.requires) c.start-a.ensures c.end-b.ensures (first-has _ _ c.first_of-e.ensures) (none_has _ refl)
 
 pub returns-in-Some : goal.returns-in-Some
-returns-in-Some c = by (source-before c.requires c.first_in-a.ensures c.end_at-b.ensures c.first_of-e.ensures _ _ c.trivia_before-before.ensures c.trivia_after-after.ensures (ap found c.in-Some.is)) (c.stop_at.ensures.plans _)
+returns-in-Some c = by (source-before c.requires c.start-a.ensures c.end-b.ensures c.first_of-e.ensures _ _ c.trivia_before-before.ensures c.trivia_after-after.ensures (ap found c.in-Some.is)) (c.stop_at.ensures.plans _)
 
 pub returns-in-Some-g : goal.returns-in-Some-g
-returns-in-Some-g c = by (source-behind c.requires c.first_in-a.ensures c.end_at-b.ensures c.first_of-e.ensures _ _ c.trivia_before-before.ensures c.trivia_after-after.ensures (ap found c.in_default.is) (ap found c.in-Some-g.is)) (c.stop_at-in-Some-g.ensures.plans _)
+returns-in-Some-g c = by (source-behind c.requires c.start-a.ensures c.end-b.ensures c.first_of-e.ensures _ _ c.trivia_before-before.ensures c.trivia_after-after.ensures (ap found c.in_default.is) (ap found c.in-Some-g.is)) (c.stop_at-in-Some-g.ensures.plans _)
 
 pub plan_whole-requires : goal.plan_whole-requires
-plan_whole-requires c = record { at = root_at c.requires; has = first-has _ _ c.first_of-e.ensures; region = before-region c.requires c.first_in-a.ensures c.end_at-b.ensures c.first_of-e.ensures _ _ c.trivia_before-before.ensures c.trivia_after-after.ensures; region_2 = after-region c.requires c.first_in-a.ensures c.end_at-b.ensures c.first_of-e.ensures _ _ c.trivia_before-before.ensures c.trivia_after-after.ensures }
+plan_whole-requires c = record { has = first-has _ _ c.first_of-e.ensures; before = before-region c.requires c.start-a.ensures c.end-b.ensures c.first_of-e.ensures _ _ c.trivia_before-before.ensures c.trivia_after-after.ensures; after = after-region c.requires c.start-a.ensures c.end-b.ensures c.first_of-e.ensures _ _ c.trivia_before-before.ensures c.trivia_after-after.ensures }
 
 pub returns : goal.returns
-returns c = by (source-whole c.requires c.first_in-a.ensures c.end_at-b.ensures c.first_of-e.ensures _ _ c.trivia_before-before.ensures c.trivia_after-after.ensures (ap found c.in_default.is) (ap found c.in_default-g.is)) c.plan_whole.ensures
+returns c = by (source-whole c.requires c.start-a.ensures c.end-b.ensures c.first_of-e.ensures _ _ c.trivia_before-before.ensures c.trivia_after-after.ensures (ap found c.in_default.is) (ap found c.in_default-g.is)) c.plan_whole.ensures

@@ -34,7 +34,7 @@ pub args-returns-then-is_stopped : goal.args-returns-then-is_stopped
 args-returns-then-is_stopped t c = by (args-foreign _ (enclosed-reading _ _ _ _ c.enclosed-z.ensures ∙ survey-foreign _ c.kinds_of.ensures c.survey-o.ensures c.is_stopped.ensures c.if-is_stopped.true)) (c.stop_at.ensures.plans _)
 
 pub args-items-requires : goal.args-items-requires
-args-items-requires t c = (omega (arith, c.decreases), (within c.requires c.enclosed-z.ensures, outlined-whole (survey-outlined _ c.kinds_of.ensures c.survey-o.ensures c.is_stopped.ensures c.if-is_stopped.false)))
+args-items-requires t c = (omega (arith, c.decreases), (within c.args.n.at c.enclosed-z.ensures, outlined-whole (survey-outlined _ c.kinds_of.ensures c.survey-o.ensures c.is_stopped.ensures c.if-is_stopped.false)))
 
 pub args-close_arguments-requires : goal.args-close_arguments-requires
 args-close_arguments-requires t c = record { bracket_lt_word_count = right_paren.known; lies = c.survey-o.ensures.outlines.lies }
@@ -53,13 +53,13 @@ binds-returns-then-is_stopped t c = by (local-foreign _ (enclosed-reading _ _ _ 
 pub binds-lone-requires : goal.binds-lone-requires
 binds-lone-requires t c =
     let x = (survey-outlined _ c.kinds_of.ensures c.survey-o.ensures c.is_stopped.ensures c.if-is_stopped.false) in
-    (omega (arith, c.decreases), (within c.requires c.enclosed-z.ensures, (outlined-whole x, outlined-count _ x c.if-o-eq1.true)))
+    (omega (arith, c.decreases), (within c.args.n.at c.enclosed-z.ensures, (outlined-whole x, outlined-count _ x c.if-o-eq1.true)))
 
 pub binds-returns-then-o-eq1 : goal.binds-returns-then-o-eq1
 binds-returns-then-o-eq1 t c = by (ap (local_of _) (enclosed-reading _ _ _ _ c.enclosed-z.ensures)) c.lone.ensures
 
 pub binds-items-requires : goal.binds-items-requires
-binds-items-requires t c = (omega (arith, c.decreases), (within c.requires c.enclosed-z.ensures, outlined-whole (survey-outlined _ c.kinds_of.ensures c.survey-o.ensures c.is_stopped.ensures c.if-is_stopped.false)))
+binds-items-requires t c = (omega (arith, c.decreases), (within c.args.n.at c.enclosed-z.ensures, outlined-whole (survey-outlined _ c.kinds_of.ensures c.survey-o.ensures c.is_stopped.ensures c.if-is_stopped.false)))
 
 pub binds-close_binds-requires : goal.binds-close_binds-requires
 binds-close_binds-requires t c = c.survey-o.ensures.outlines.lies
@@ -68,9 +68,6 @@ pub binds-returns : goal.binds-returns
 binds-returns t c = plans-binds _ (enclosed-reading _ _ _ _ c.enclosed-z.ensures) Always (survey-outlined _ c.kinds_of.ensures c.survey-o.ensures c.is_stopped.ensures c.if-is_stopped.false) c.if-o-eq1.false (c.open_binds.ensures _) c.items.ensures c.close_binds.ensures
 
 -- ---- body
-
-pub body-spec_bounds-z-requires : goal.body-spec_bounds-z-requires
-body-spec_bounds-z-requires t c = c.requires.within.at
 
 pub body-survey_after-o-requires : goal.body-survey_after-o-requires
 body-survey_after-o-requires t c = record { region = c.spec_bounds-z.ensures.region; lies = c.requires.lies }
@@ -94,8 +91,11 @@ body-returns t c =
 
 -- ---- child
 
+pub child-invariant_of-node : goal.child-invariant_of-node
+child-invariant_of-node t c = record { at = kid_at c.requires.kid }
+
 pub child-node-requires : goal.child-node-requires
-child-node-requires t c = (kid_falls 0 c.requires.kid (omega (arith, c.decreases)), kid_at c.requires.kid)
+child-node-requires t c = (kid_falls 0 c.requires.kid (omega (arith, c.decreases)), tt {0})
 
 pub child-returns : goal.child-returns
 child-returns t c = by (around_is _ _ _ _ _ _ _) (c.plan_above.ensures ▸ by (kid-print c.requires.kid) c.node.ensures ▸ c.plan_behind.ensures)
@@ -106,24 +106,24 @@ pub comp-returns-then-is_none : goal.comp-returns-then-is_none
 comp-returns-then-is_none t c = by (comp-lacks _ _ _ _ c.first_of-spec.ensures (lacking _ c.is_none.ensures) c.if-is_none.true) (c.stop_at.ensures.plans _)
 
 pub comp-bounds_between-y-requires : goal.comp-bounds_between-y-requires
-comp-bounds_between-y-requires t c = ends-has c.requires c.first_in-a.ensures c.end_at.ensures (first-has _ _ c.first_of-brace.ensures) (first-has _ _ c.first_of-spec.ensures)
+comp-bounds_between-y-requires t c = ends-has c.args.n.at c.start-a.ensures c.end.ensures (first-has _ _ c.first_of-brace.ensures) (first-has _ _ c.first_of-spec.ensures)
 
 pub comp-survey-m-requires : goal.comp-survey-m-requires
 comp-survey-m-requires t c = c.bounds_between-y.ensures.region
 
 pub comp-returns-then-is_stopped : goal.comp-returns-then-is_stopped
 comp-returns-then-is_stopped t c =
-    let d = bounded_as _ c.first_in-a.ensures c.end_at.ensures c.first_of-brace.ensures c.first_of-spec.ensures c.bounds_between-y.ensures in
+    let d = bounded_as _ c.start-a.ensures c.end.ensures c.first_of-brace.ensures c.first_of-spec.ensures c.bounds_between-y.ensures in
     by (member_reading _ _ _ c.first_of-spec.ensures (lacking _ c.is_none.ensures) c.if-is_none.false d ∙ comp-foreign _ _ (survey-foreign _ c.kinds_of.ensures c.survey-m.ensures c.is_stopped.ensures c.if-is_stopped.true)) (c.stop_at-then-is_stopped.ensures.plans _)
 
 pub comp-body-requires : goal.comp-body-requires
 comp-body-requires t c =
-    let d = bounded_as _ c.first_in-a.ensures c.end_at.ensures c.first_of-brace.ensures c.first_of-spec.ensures c.bounds_between-y.ensures in
-    (omega (arith, c.decreases), (within c.requires d, (c.survey-m.ensures.outlines.lies, survey-outlined _ c.kinds_of.ensures c.survey-m.ensures c.is_stopped.ensures c.if-is_stopped.false)))
+    let d = bounded_as _ c.start-a.ensures c.end.ensures c.first_of-brace.ensures c.first_of-spec.ensures c.bounds_between-y.ensures in
+    (omega (arith, c.decreases), (within c.args.n.at d, (c.survey-m.ensures.outlines.lies, survey-outlined _ c.kinds_of.ensures c.survey-m.ensures c.is_stopped.ensures c.if-is_stopped.false)))
 
 pub comp-returns : goal.comp-returns
 comp-returns t c =
-    let d = bounded_as _ c.first_in-a.ensures c.end_at.ensures c.first_of-brace.ensures c.first_of-spec.ensures c.bounds_between-y.ensures in
+    let d = bounded_as _ c.start-a.ensures c.end.ensures c.first_of-brace.ensures c.first_of-spec.ensures c.bounds_between-y.ensures in
     by (member_reading _ _ _ c.first_of-spec.ensures (lacking _ c.is_none.ensures) c.if-is_none.false d) c.body.ensures
 
 -- ---- each
@@ -132,7 +132,7 @@ pub each-loop-j-init : goal.each-loop-j-init
 each-loop-j-init t c = search eaching-none
 
 pub each-one-requires : goal.each-one-requires
-each-one-requires t c = (omega (arith, c.decreases), (eaching-kid c.loop-j.invariant c.end_at-end.ensures c.loop-j-test.true, (c.requires.want_lt_want_count, c.requires.word_lt_word_count)))
+each-one-requires t c = (omega (arith, c.decreases), (eaching-kid c.loop-j.invariant c.end-end.ensures c.loop-j-test.true, (c.requires.want, c.requires.word)))
 
 pub each-loop-j-smaller : goal.each-loop-j-smaller
 each-loop-j-smaller t c = search eaching-less
@@ -141,7 +141,7 @@ pub each-loop-j-preserved : goal.each-loop-j-preserved
 each-loop-j-preserved t c = search eaching-more
 
 pub each-returns : goal.each-returns
-each-returns t c = eaching-all c.loop-j.invariant c.end_at-end.ensures c.loop-j-test.false
+each-returns t c = eaching-all c.loop-j.invariant c.end-end.ensures c.loop-j-test.false
 
 -- ---- expr
 
@@ -152,16 +152,16 @@ pub expr-bounds_between-z-requires : goal.expr-bounds_between-z-requires
 expr-bounds_between-z-requires t c = search (ends-has, none_has, first-has)
 
 pub expr-stmts-requires : goal.expr-stmts-requires
-expr-stmts-requires t c = (omega (arith, c.decreases), within c.requires (bounded_as _ c.first_in-a.ensures c.end_at-b.ensures refl refl c.bounds_between-y.ensures))
+expr-stmts-requires t c = (omega (arith, c.decreases), within c.args.n.at (bounded_as _ c.start-a.ensures c.end-b.ensures refl refl c.bounds_between-y.ensures))
 
 pub expr-part-requires : goal.expr-part-requires
-expr-part-requires t c = (omega (arith, c.decreases), (c.requires, (first-has _ _ c.first_of-base.ensures, omega arith)))
+expr-part-requires t c = (omega (arith, c.decreases), ((first-has _ _ c.first_of-base.ensures, omega arith)))
 
 pub expr-values-requires : goal.expr-values-requires
-expr-values-requires t c = (omega (arith, c.decreases), within c.requires (bounded_as _ c.first_in-a.ensures c.end_at-b.ensures refl refl c.bounds_between-z.ensures))
+expr-values-requires t c = (omega (arith, c.decreases), within c.args.n.at (bounded_as _ c.start-a.ensures c.end-b.ensures refl refl c.bounds_between-z.ensures))
 
 pub expr-returns : goal.expr-returns
-expr-returns t c = plans-expr _ _ _ c.first_of-base.ensures (bounded_as _ c.first_in-a.ensures c.end_at-b.ensures refl refl c.bounds_between-y.ensures) (bounded_as _ c.first_in-a.ensures c.end_at-b.ensures refl refl c.bounds_between-z.ensures) c.stmts.ensures c.part.ensures c.values.ensures
+expr-returns t c = plans-expr _ _ _ c.first_of-base.ensures (bounded_as _ c.start-a.ensures c.end-b.ensures refl refl c.bounds_between-y.ensures) (bounded_as _ c.start-a.ensures c.end-b.ensures refl refl c.bounds_between-z.ensures) c.stmts.ensures c.part.ensures c.values.ensures
 
 -- ---- items
 
@@ -173,8 +173,8 @@ items-returns t c = by (items-walk _ _ _ _ (spans_as c.kinds_of-w.ensures c.gap-
 
 -- ---- kids
 
-pub kids-loop-i-init : goal.kids-loop-i-init
-kids-loop-i-init t c = search walking-none
+pub kids-loop-z-init : goal.kids-loop-z-init
+kids-loop-z-init t c = search walking-none
 
 pub kids-gap-g-requires : goal.kids-gap-g-requires
 kids-gap-g-requires t c = search walks-region
@@ -182,11 +182,11 @@ kids-gap-g-requires t c = search walks-region
 pub kids-child-requires : goal.kids-child-requires
 kids-child-requires t c = (search rules, (search (walks-kid, child_is), (search rules, search rules)))
 
-pub kids-loop-i-smaller : goal.kids-loop-i-smaller
-kids-loop-i-smaller t c = search walks_less
+pub kids-loop-z-smaller : goal.kids-loop-z-smaller
+kids-loop-z-smaller t c = search walks_less
 
-pub kids-loop-i-preserved : goal.kids-loop-i-preserved
-kids-loop-i-preserved t c = search walking-more
+pub kids-loop-z-preserved : goal.kids-loop-z-preserved
+kids-loop-z-preserved t c = search walking-more
 
 pub kids-returns : goal.kids-returns
 kids-returns t c = search walking-all_lem
@@ -213,7 +213,7 @@ pub list-open_list-requires : goal.list-open_list-requires
 list-open_list-requires t c = c.open_word.ensures.known
 
 pub list-items-requires : goal.list-items-requires
-list-items-requires t c = (omega (arith, c.decreases), (within c.requires c.enclosed-z.ensures, outlined-whole (survey-outlined _ c.kinds_of.ensures c.survey-o.ensures c.is_stopped.ensures c.if-is_stopped.false)))
+list-items-requires t c = (omega (arith, c.decreases), (within c.args.n.at c.enclosed-z.ensures, outlined-whole (survey-outlined _ c.kinds_of.ensures c.survey-o.ensures c.is_stopped.ensures c.if-is_stopped.false)))
 
 pub list-close_list-requires : goal.list-close_list-requires
 list-close_list-requires t c = record { bracket_lt_word_count = c.close_word.ensures.known; lies = c.survey-o.ensures.outlines.lies }
@@ -238,106 +238,111 @@ lone-gap-s-requires t c = c.requires.within.region
 pub lone-plan_waiting-requires : goal.lone-plan_waiting-requires
 lone-plan_waiting-requires t c = c.gap-s.ensures.lies
 
+pub lone-invariant_of-node : goal.lone-invariant_of-node
+lone-invariant_of-node t c = record { at = kid_at (walks-kid (walks-first _ c.requires.within (spans_as c.kinds_of-w.ensures c.gap-s.ensures)) (lone-there c.kinds_of-w.ensures c.gap-s.ensures c.requires.whole c.requires.one)) }
+
 pub lone-node-requires : goal.lone-node-requires
-lone-node-requires t c =
-    let k = walks-kid (walks-first _ c.requires.within (spans_as c.kinds_of-w.ensures c.gap-s.ensures)) (lone-there c.kinds_of-w.ensures c.gap-s.ensures c.requires.whole c.requires.none_len) in
-    (kid_falls 0 k (omega (arith, c.decreases)), kid_at k)
+lone-node-requires t c = (kid_falls 0 (walks-kid (walks-first _ c.requires.within (spans_as c.kinds_of-w.ensures c.gap-s.ensures)) (lone-there c.kinds_of-w.ensures c.gap-s.ensures c.requires.whole c.requires.one)) (omega (arith, c.decreases)), tt {0})
 
 pub lone-returns : goal.lone-returns
 unfolding words
 lone-returns t c =
-    let k = walks-kid (walks-first _ c.requires.within (spans_as c.kinds_of-w.ensures c.gap-s.ensures)) (lone-there c.kinds_of-w.ensures c.gap-s.ensures c.requires.whole c.requires.none_len) in
-    by (lone_is c.kinds_of-w.ensures c.gap-s.ensures c.requires.whole c.requires.none_len _) (c.plan_waiting.ensures ▸ c.plan_word.ensures _ ▸ by (kid-print k) c.node.ensures)
+    let k = walks-kid (walks-first _ c.requires.within (spans_as c.kinds_of-w.ensures c.gap-s.ensures)) (lone-there c.kinds_of-w.ensures c.gap-s.ensures c.requires.whole c.requires.one) in
+    by (lone_is c.kinds_of-w.ensures c.gap-s.ensures c.requires.whole c.requires.one _) (c.plan_waiting.ensures ▸ c.plan_word.ensures _ ▸ by (kid-print k) c.node.ensures)
 
 -- ---- node
 
 pub node-plan_token-requires : goal.node-plan_token-requires
-node-plan_token-requires t c = element-fits c.requires
+node-plan_token-requires t c = element-fits c.args.n.at
 
 pub node-returns-then-k-ge-FIRST_TOKEN : goal.node-returns-then-k-ge-FIRST_TOKEN
-node-returns-then-k-ge-FIRST_TOKEN t c = by (node-token c.requires c.kind_at-k.ensures c.if-k-ge-FIRST_TOKEN.true) (c.plan_token.ensures _)
+node-returns-then-k-ge-FIRST_TOKEN t c = by (node-token c.args.n.at c.kind_at-k.ensures c.if-k-ge-FIRST_TOKEN.true) (c.plan_token.ensures _)
 
 pub node-expr-requires : goal.node-expr-requires
-node-expr-requires t c = (omega (arith, c.decreases), c.requires)
+node-expr-requires t c = omega (arith, c.decreases)
 
 pub node-list-requires : goal.node-list-requires
-node-list-requires t c = (omega (arith, c.decreases), c.requires)
+node-list-requires t c = omega (arith, c.decreases)
 
 pub node-local-requires : goal.node-local-requires
-node-local-requires t c = (omega (arith, c.decreases), c.requires)
+node-local-requires t c = omega (arith, c.decreases)
 
 pub node-comp-requires : goal.node-comp-requires
-node-comp-requires t c = (omega (arith, c.decreases), c.requires)
+node-comp-requires t c = omega (arith, c.decreases)
 
 pub node-list-requires-in-27 : goal.node-list-requires-in-27
-node-list-requires-in-27 t c = (omega (arith, c.decreases), c.requires)
+node-list-requires-in-27 t c = omega (arith, c.decreases)
 
 pub node-args-requires : goal.node-args-requires
-node-args-requires t c = (omega (arith, c.decreases), c.requires)
+node-args-requires t c = omega (arith, c.decreases)
 
 pub node-plan_token-requires-in-56 : goal.node-plan_token-requires-in-56
-node-plan_token-requires-in-56 t c = element-fits c.requires
+node-plan_token-requires-in-56 t c = element-fits c.args.n.at
 
 pub node-row-requires : goal.node-row-requires
-node-row-requires t c = (omega (arith, c.decreases), (c.requires, rowed-small _ _ c.kind_at-k.ensures (rowed-rest _ c.if-k-ge-FIRST_TOKEN.false c.in_default.in_default-own.rest.0.0.0.0.0.0.1 c.in_default.in_default-own.rest.0.0.0.0.0.1 c.in_default.in_default-own.rest.0.0.0.0.1 c.in_default.in_default-own.rest.0.0.0.1 c.in_default.in_default-own.rest.0.0.1 c.in_default.in_default-own.rest.0.1 c.in_default.in_default-own.rest.1)))
+node-row-requires t c = (omega (arith, c.decreases), (rowed-small _ _ c.kind_at-k.ensures (rowed-rest _ c.if-k-ge-FIRST_TOKEN.false c.in_default.in_default-own.rest.0.0.0.0.0.0.1 c.in_default.in_default-own.rest.0.0.0.0.0.1 c.in_default.in_default-own.rest.0.0.0.0.1 c.in_default.in_default-own.rest.0.0.0.1 c.in_default.in_default-own.rest.0.0.1 c.in_default.in_default-own.rest.0.1 c.in_default.in_default-own.rest.1)))
 
 pub node-returns-in-2 : goal.node-returns-in-2
 unfolding element
-node-returns-in-2 t c = by (node-own c.requires c.kind_at-k.ensures 2 c.in-2.is) c.expr.ensures
+node-returns-in-2 t c = by (node-own c.args.n.at c.kind_at-k.ensures 2 c.in-2.is) c.expr.ensures
 
 pub node-returns-in-10 : goal.node-returns-in-10
 unfolding element
-node-returns-in-10 t c = by (node-own c.requires c.kind_at-k.ensures 10 c.in-10.is) c.list.ensures
+node-returns-in-10 t c = by (node-own c.args.n.at c.kind_at-k.ensures 10 c.in-10.is) c.list.ensures
 
 pub node-returns-in-22 : goal.node-returns-in-22
 unfolding element
-node-returns-in-22 t c = by (node-own c.requires c.kind_at-k.ensures 22 c.in-22.is) c.local.ensures
+node-returns-in-22 t c = by (node-own c.args.n.at c.kind_at-k.ensures 22 c.in-22.is) c.local.ensures
 
 pub node-returns-in-26 : goal.node-returns-in-26
 unfolding element
-node-returns-in-26 t c = by (node-own c.requires c.kind_at-k.ensures 26 c.in-26.is) c.comp.ensures
+node-returns-in-26 t c = by (node-own c.args.n.at c.kind_at-k.ensures 26 c.in-26.is) c.comp.ensures
 
 pub node-returns-in-27 : goal.node-returns-in-27
 unfolding element
-node-returns-in-27 t c = by (node-own c.requires c.kind_at-k.ensures 27 c.in-27.is) c.list-in-27.ensures
+node-returns-in-27 t c = by (node-own c.args.n.at c.kind_at-k.ensures 27 c.in-27.is) c.list-in-27.ensures
 
 pub node-returns-in-47 : goal.node-returns-in-47
 unfolding element
-node-returns-in-47 t c = by (node-own c.requires c.kind_at-k.ensures 47 c.in-47.is) c.args-in-47.ensures
+node-returns-in-47 t c = by (node-own c.args.n.at c.kind_at-k.ensures 47 c.in-47.is) c.args-in-47.ensures
 
 pub node-returns-in-56 : goal.node-returns-in-56
 unfolding element
-node-returns-in-56 t c = by (node-own c.requires c.kind_at-k.ensures 56 c.in-56.is) (c.plan_token-in-56.ensures _)
+node-returns-in-56 t c = by (node-own c.args.n.at c.kind_at-k.ensures 56 c.in-56.is) (c.plan_token-in-56.ensures _)
 
 pub node-returns-in_default : goal.node-returns-in_default
-node-returns-in_default t c = by (node_row c.requires c.kind_at-k.ensures (rowed-rest _ c.if-k-ge-FIRST_TOKEN.false c.in_default.in_default-own.rest.0.0.0.0.0.0.1 c.in_default.in_default-own.rest.0.0.0.0.0.1 c.in_default.in_default-own.rest.0.0.0.0.1 c.in_default.in_default-own.rest.0.0.0.1 c.in_default.in_default-own.rest.0.0.1 c.in_default.in_default-own.rest.0.1 c.in_default.in_default-own.rest.1)) c.row.ensures
+node-returns-in_default t c = by (node_row c.args.n.at c.kind_at-k.ensures (rowed-rest _ c.if-k-ge-FIRST_TOKEN.false c.in_default.in_default-own.rest.0.0.0.0.0.0.1 c.in_default.in_default-own.rest.0.0.0.0.0.1 c.in_default.in_default-own.rest.0.0.0.0.1 c.in_default.in_default-own.rest.0.0.0.1 c.in_default.in_default-own.rest.0.0.1 c.in_default.in_default-own.rest.0.1 c.in_default.in_default-own.rest.1)) c.row.ensures
 
 -- ---- one
 
 pub one-kinds_wanted-requires : goal.one-kinds_wanted-requires
-one-kinds_wanted-requires t c = c.requires.want_lt_want_count
+one-kinds_wanted-requires t c = c.requires.want
 
 pub one-returns-then-not-is : goal.one-returns-then-not-is
 one-returns-then-not-is t c = by (each-other _ _ _ _ _ (class-tested _ c.is.ensures c.kinds_wanted.ensures c.kind_at.ensures (not-true _ (ap not c.if-not-is.true)))) idle
 
 pub one-plan_optional-requires : goal.one-plan_optional-requires
-one-plan_optional-requires t c = c.requires.word_lt_word_count
+one-plan_optional-requires t c = c.requires.word
+
+pub one-invariant_of-node : goal.one-invariant_of-node
+one-invariant_of-node t c = record { at = kid_at c.requires.kid }
 
 pub one-node-requires : goal.one-node-requires
-one-node-requires t c = (kid_falls 0 c.requires.kid (omega (arith, c.decreases)), kid_at c.requires.kid)
+one-node-requires t c = (kid_falls 0 c.requires.kid (omega (arith, c.decreases)), tt {0})
 
 pub one-returns : goal.one-returns
-one-returns t c = each-one _ _ _ c.requires.word_lt_word_count c.requires.kid (class-tested _ c.is.ensures c.kinds_wanted.ensures c.kind_at.ensures (not-false _ (ap not c.if-not-is.false))) (c.plan_optional.ensures _) c.node.ensures (c.plan_end.ensures _)
+one-returns t c = each-one _ _ _ c.requires.word c.requires.kid (class-tested _ c.is.ensures c.kinds_wanted.ensures c.kind_at.ensures (not-false _ (ap not c.if-not-is.false))) (c.plan_optional.ensures _) c.node.ensures (c.plan_end.ensures _)
 
 -- ---- part
 
+pub part-invariant_of-node : goal.part-invariant_of-node
+part-invariant_of-node t c = record { at = kid_at (found_kid _ c.args.n.at c.requires.has (ap found c.in-Some.is)) }
+
 pub part-node-requires : goal.part-node-requires
-part-node-requires t c =
-    let k = found_kid _ c.requires.at c.requires.has (ap found c.in-Some.is) in
-    (kid_falls 0 k (omega (arith, c.decreases)), kid_at k)
+part-node-requires t c = (kid_falls 0 (found_kid _ c.args.n.at c.requires.has (ap found c.in-Some.is)) (omega (arith, c.decreases)), tt {0})
 
 pub part-returns-in-Some : goal.part-returns-in-Some
-part-returns-in-Some t c = by (number-found _ (ap found c.in-Some.is) (found_kid _ c.requires.at c.requires.has (ap found c.in-Some.is))) c.node.ensures
+part-returns-in-Some t c = by (number-found _ (ap found c.in-Some.is) (found_kid _ c.args.n.at c.requires.has (ap found c.in-Some.is))) c.node.ensures
 
 pub part-returns-in-None : goal.part-returns-in-None
 part-returns-in-None t c = by (number-none _ _ (ap found c.in-None.is)) (c.plan_optional.ensures _)
@@ -345,12 +350,12 @@ part-returns-in-None t c = by (number-none _ _ (ap found c.in-None.is)) (c.plan_
 -- ---- piece
 
 pub piece-entry_at-x-requires : goal.piece-entry_at-x-requires
-piece-entry_at-x-requires t c = c.requires.n_lt_piece_count
+piece-entry_at-x-requires t c = c.requires.known
 
 pub piece-is_asked-requires : goal.piece-is_asked-requires
 piece-is_asked-requires t c =
     let x = c.entry_at-x.ensures in
-    record { at = c.requires.at; marks = marks_for c.requires.marks (λ e. ap tested (sym x.piece) ∙ sym x.tests ∙ e); tested_value = x.tests; given_lt_want_count = x.given; other_lt_want_count = x.other; unless_lt_want_count = x.unless }
+    record { marks = marks_for c.requires.marks (λ e. ap tested (sym x.piece) ∙ sym x.tests ∙ e); test = x.tests; given = x.given; other = x.other; unless = x.unless }
 
 pub piece-returns-then-not-is_asked : goal.piece-returns-then-not-is_asked
 piece-returns-then-not-is_asked t c = by (piece-unasked _ _ _ _ _ c.entry_at-x.ensures c.is_asked.ensures (ap not c.if-not-is_asked.true)) idle
@@ -365,42 +370,42 @@ pub piece-returns-in-Signal : goal.piece-returns-in-Signal
 piece-returns-in-Signal t c = by (piece-asked_lem _ _ _ _ _ c.entry_at-x.ensures c.is_asked.ensures (ap not c.if-not-is_asked.false) ∙ piece-signal _ _ c.entry_at-x.result c.what_in.ensures c.in-Signal.is) (c.plan_signal.ensures _)
 
 pub piece-each-requires : goal.piece-each-requires
-piece-each-requires t c = (omega (arith, c.decreases), (c.requires.at, (c.entry_at-x.ensures.want, c.entry_at-x.ensures.word)))
+piece-each-requires t c = (omega (arith, c.decreases), ((c.entry_at-x.ensures.want, c.entry_at-x.ensures.word)))
 
 pub piece-returns-in-Each : goal.piece-returns-in-Each
 piece-returns-in-Each t c = by (piece-asked_lem _ _ _ _ _ c.entry_at-x.ensures c.is_asked.ensures (ap not c.if-not-is_asked.false) ∙ piece-each _ _ c.entry_at-x.result c.what_in.ensures c.in-Each.is) c.each.ensures
 
 pub piece-wanted_part-f-requires : goal.piece-wanted_part-f-requires
-piece-wanted_part-f-requires t c = record { at = c.requires.at; marks = marks_weak c.requires.marks; w_lt_want_count = c.entry_at-x.ensures.want }
+piece-wanted_part-f-requires t c = record { marks = marks_weak c.requires.marks; known = c.entry_at-x.ensures.want }
 
 pub piece-part-requires : goal.piece-part-requires
-piece-part-requires t c = (omega (arith, c.decreases), (c.requires.at, (want-has _ _ c.wanted_part-f.ensures, c.entry_at-x.ensures.word)))
+piece-part-requires t c = (omega (arith, c.decreases), ((want-has _ _ c.wanted_part-f.ensures, c.entry_at-x.ensures.word)))
 
 pub piece-returns-in-Part : goal.piece-returns-in-Part
 piece-returns-in-Part t c = by (piece-asked_lem _ _ _ _ _ c.entry_at-x.ensures c.is_asked.ensures (ap not c.if-not-is_asked.false) ∙ piece-part _ _ c.entry_at-x.result c.what_in.ensures c.entry_at-x.ensures.settles c.in-Part.is ∙ ap (number_or _ _) (sym c.wanted_part-f.ensures)) c.part.ensures
 
 pub piece-plus_part-f-requires : goal.piece-plus_part-f-requires
-piece-plus_part-f-requires t c = record { at = c.requires.at; marks = marks_weak c.requires.marks }
+piece-plus_part-f-requires t c = record { marks = marks_weak c.requires.marks }
 
 pub piece-part-requires-in-Plus : goal.piece-part-requires-in-Plus
-piece-part-requires-in-Plus t c = (omega (arith, c.decreases), (c.requires.at, (plus-part _ c.plus_part-f.ensures, c.entry_at-x.ensures.word)))
+piece-part-requires-in-Plus t c = (omega (arith, c.decreases), ((plus-part _ c.plus_part-f.ensures, c.entry_at-x.ensures.word)))
 
 pub piece-returns-in-Plus : goal.piece-returns-in-Plus
 piece-returns-in-Plus t c = by (piece-asked_lem _ _ _ _ _ c.entry_at-x.ensures c.is_asked.ensures (ap not c.if-not-is_asked.false) ∙ piece-plus _ _ c.entry_at-x.result c.what_in.ensures c.entry_at-x.ensures.settles c.in-Plus.is ∙ ap (number_or _ _) (sym c.plus_part-f.ensures)) c.part-in-Plus.ensures
 
 -- ---- row
 
-pub row-loop-n-init : goal.row-loop-n-init
-row-loop-n-init t c = rowing-none c.row_of-e.ensures c.kind_at.ensures c.marks_in-m.ensures
+pub row-loop-k-init : goal.row-loop-k-init
+row-loop-k-init t c = rowing-none c.row_of-e.ensures c.kind_at.ensures c.marks_in-m.ensures
 
 pub row-piece-requires : goal.row-piece-requires
-row-piece-requires t c = (omega (arith, c.decreases), (c.requires.at, rowing-in c.loop-n.invariant c.loop-n-test.true))
+row-piece-requires t c = (omega (arith, c.decreases), (rowing-in c.loop-k.invariant c.loop-k-test.true))
 
-pub row-loop-n-preserved : goal.row-loop-n-preserved
-row-loop-n-preserved t c = rowing_more c.loop-n.invariant c.loop-n-test.true c.piece.ensures refl
+pub row-loop-k-preserved : goal.row-loop-k-preserved
+row-loop-k-preserved t c = rowing_more c.loop-k.invariant c.loop-k-test.true c.piece.ensures refl
 
 pub row-returns : goal.row-returns
-row-returns t c = rowing-all c.loop-n.invariant c.loop-n-test.false
+row-returns t c = rowing-all c.loop-k.invariant c.loop-k-test.false
 
 -- ---- specs
 
@@ -426,8 +431,11 @@ specs-returns t c =
 
 -- ---- stmt
 
+pub stmt-invariant_of-node : goal.stmt-invariant_of-node
+stmt-invariant_of-node t c = record { at = kid_at c.requires.kid }
+
 pub stmt-node-requires : goal.stmt-node-requires
-stmt-node-requires t c = (kid_falls 0 c.requires.kid (omega (arith, c.decreases)), kid_at c.requires.kid)
+stmt-node-requires t c = (kid_falls 0 c.requires.kid (omega (arith, c.decreases)), tt {0})
 
 pub stmt-returns : goal.stmt-returns
 unfolding stated
@@ -441,25 +449,25 @@ stmts-returns-then-z t c = by (statements-over _ _ _ _ _ c.if-z.true) idle
 pub stmts-returns-then-is_stopped : goal.stmts-returns-then-is_stopped
 stmts-returns-then-is_stopped t c = by (statements-foreign _ (survey-foreign _ c.kinds_of-w.ensures c.survey-o.ensures c.is_stopped.ensures c.if-is_stopped.true)) (c.stop_at.ensures.plans _)
 
-pub stmts-loop-i-init : goal.stmts-loop-i-init
-stmts-loop-i-init t c = walking-first _ c.requires c.kinds_of-w.ensures c.gap-s.ensures
+pub stmts-loop-z-init : goal.stmts-loop-z-init
+stmts-loop-z-init t c = walking-first _ c.requires c.kinds_of-w.ensures c.gap-s.ensures
 
 pub stmts-gap-g-requires : goal.stmts-gap-g-requires
 stmts-gap-g-requires t c = search walks-region
 
 pub stmts-stmt-requires : goal.stmts-stmt-requires
 stmts-stmt-requires t c =
-    let w = c.loop-i.invariant.walks in
-    (omega (arith, c.decreases), (walks-kid w (child_is _ c.at_child.ensures c.loop-i-test.true), (w.lies, c.gap-g.ensures.lies)))
+    let w = c.loop-z.invariant.walks in
+    (omega (arith, c.decreases), (walks-kid w (child_is _ c.at_child.ensures c.loop-z-test.true), (w.lies, c.gap-g.ensures.lies)))
 
-pub stmts-loop-i-smaller : goal.stmts-loop-i-smaller
-stmts-loop-i-smaller t c = search walks_less
+pub stmts-loop-z-smaller : goal.stmts-loop-z-smaller
+stmts-loop-z-smaller t c = search walks_less
 
-pub stmts-loop-i-preserved : goal.stmts-loop-i-preserved
-stmts-loop-i-preserved t c = search walking-more
+pub stmts-loop-z-preserved : goal.stmts-loop-z-preserved
+stmts-loop-z-preserved t c = search walking-more
 
 pub stmts-returns : goal.stmts-returns
-stmts-returns t c = stating-all _ c.kinds_of-w.ensures c.gap-s.ensures (survey-outlined _ c.kinds_of-w.ensures c.survey-o.ensures c.is_stopped.ensures c.if-is_stopped.false) c.loop-i.invariant c.at_child.ensures c.loop-i-test.false c.keep_waiting.ensures
+stmts-returns t c = stating-all _ c.kinds_of-w.ensures c.gap-s.ensures (survey-outlined _ c.kinds_of-w.ensures c.survey-o.ensures c.is_stopped.ensures c.if-is_stopped.false) c.loop-z.invariant c.at_child.ensures c.loop-z-test.false c.keep_waiting.ensures
 
 -- ---- values
 
@@ -472,10 +480,11 @@ values-returns-then-is_stopped t c = by (values-foreign _ (survey-foreign _ c.ki
 pub values-loop-z-init : goal.values-loop-z-init
 values-loop-z-init t c = search valuing-none
 
+pub values-invariant_of-node : goal.values-invariant_of-node
+values-invariant_of-node t c = record { at = kid_at (walks-kid (c.loop-z.invariant.walking c.requires).walks (child_is _ c.at_child.ensures c.loop-z-test.true)) }
+
 pub values-node-requires : goal.values-node-requires
-values-node-requires t c =
-    let k = walks-kid (c.loop-z.invariant.walking c.requires).walks (child_is _ c.at_child.ensures c.loop-z-test.true) in
-    (kid_falls 0 k (omega (arith, c.decreases)), kid_at k)
+values-node-requires t c = (kid_falls 0 (walks-kid (c.loop-z.invariant.walking c.requires).walks (child_is _ c.at_child.ensures c.loop-z-test.true)) (omega (arith, c.decreases)), tt {0})
 
 pub values-gap-s-requires-in-loop-z : goal.values-gap-s-requires-in-loop-z
 values-gap-s-requires-in-loop-z t c = walks-region (c.loop-z.invariant.walking c.requires).walks c.at_child.ensures c.loop-z-test.true c.end_at.ensures

@@ -12,91 +12,91 @@ use Rattle.printer.proofs.printers.+printers.Given as goal
 
 -- six times the elements under the node, and a rank: a printer that calls another at the same node has the higher one
 abbrev pub decreases-args : goal.decreases-args
-decreases-args l = size l.tree.now.index l.i.0 * 6 + 3
+decreases-args l = size l.n.tree.now.index l.n.element.0 * 6 + 3
 
 abbrev pub decreases-binds : goal.decreases-binds
-decreases-binds l = size l.tree.now.index l.i.0 * 6 + 3
+decreases-binds l = size l.n.tree.now.index l.n.element.0 * 6 + 3
 
 abbrev pub decreases-body : goal.decreases-body
-decreases-body l = size l.tree.now.index l.i.0 * 6 + 3
+decreases-body l = size l.n.tree.now.index l.n.element.0 * 6 + 3
 
 abbrev pub decreases-child : goal.decreases-child
-decreases-child l = size l.tree.now.index l.i.0 * 6
+decreases-child l = size l.n.tree.now.index l.n.element.0 * 6
 
 abbrev pub decreases-comp : goal.decreases-comp
-decreases-comp l = size l.tree.now.index l.i.0 * 6 + 4
+decreases-comp l = size l.n.tree.now.index l.n.element.0 * 6 + 4
 
 abbrev pub decreases-each : goal.decreases-each
-decreases-each l = size l.tree.now.index l.i.0 * 6 + 1
+decreases-each l = size l.n.tree.now.index l.n.element.0 * 6 + 1
 
 abbrev pub decreases-expr : goal.decreases-expr
-decreases-expr l = size l.tree.now.index l.i.0 * 6 + 3
+decreases-expr l = size l.n.tree.now.index l.n.element.0 * 6 + 3
 
 abbrev pub decreases-items : goal.decreases-items
-decreases-items l = size l.tree.now.index l.i.0 * 6 + 2
+decreases-items l = size l.n.tree.now.index l.n.element.0 * 6 + 2
 
 abbrev pub decreases-kids : goal.decreases-kids
-decreases-kids l = size l.tree.now.index l.i.0 * 6 + 1
+decreases-kids l = size l.n.tree.now.index l.n.element.0 * 6 + 1
 
 abbrev pub decreases-list : goal.decreases-list
-decreases-list l = size l.tree.now.index l.i.0 * 6 + 3
+decreases-list l = size l.n.tree.now.index l.n.element.0 * 6 + 3
 
 abbrev pub decreases-local : goal.decreases-local
-decreases-local l = size l.tree.now.index l.i.0 * 6 + 4
+decreases-local l = size l.n.tree.now.index l.n.element.0 * 6 + 4
 
 abbrev pub decreases-lone : goal.decreases-lone
-decreases-lone l = size l.tree.now.index l.i.0 * 6
+decreases-lone l = size l.n.tree.now.index l.n.element.0 * 6
 
 abbrev pub decreases-node : goal.decreases-node
-decreases-node l = size l.tree.now.index l.i.0 * 6 + 5
+decreases-node l = size l.n.tree.now.index l.n.element.0 * 6 + 5
 
 abbrev pub decreases-one : goal.decreases-one
-decreases-one l = size l.tree.now.index l.i.0 * 6
+decreases-one l = size l.n.tree.now.index l.n.element.0 * 6
 
 abbrev pub decreases-part : goal.decreases-part
-decreases-part l = size l.tree.now.index l.i.0 * 6
+decreases-part l = size l.n.tree.now.index l.n.element.0 * 6
 
 abbrev pub decreases-piece : goal.decreases-piece
-decreases-piece l = size l.tree.now.index l.i.0 * 6 + 2
+decreases-piece l = size l.n.tree.now.index l.n.element.0 * 6 + 2
 
 abbrev pub decreases-row : goal.decreases-row
-decreases-row l = size l.tree.now.index l.i.0 * 6 + 3
+decreases-row l = size l.n.tree.now.index l.n.element.0 * 6 + 3
 
 abbrev pub decreases-specs : goal.decreases-specs
-decreases-specs l = size l.tree.now.index l.i.0 * 6 + 2
+decreases-specs l = size l.n.tree.now.index l.n.element.0 * 6 + 2
 
 abbrev pub decreases-stmt : goal.decreases-stmt
-decreases-stmt l = size l.tree.now.index l.i.0 * 6
+decreases-stmt l = size l.n.tree.now.index l.n.element.0 * 6
 
 abbrev pub decreases-stmts : goal.decreases-stmts
-decreases-stmts l = size l.tree.now.index l.i.0 * 6 + 1
+decreases-stmts l = size l.n.tree.now.index l.n.element.0 * 6 + 1
 
 abbrev pub decreases-values : goal.decreases-values
-decreases-values l = size l.tree.now.index l.i.0 * 6
+decreases-values l = size l.n.tree.now.index l.n.element.0 * 6
 
 abbrev pub invariant-each-loop-j : goal.invariant-each-loop-j
-invariant-each-loop-j l = Eaching l.tree.image l.tree.index l.i.0 (want_at l.x.want).class (word_at l.x.word) l.ended l.initial.planner l.planner l.j
+invariant-each-loop-j l = Eaching l.n.tree.now.image l.n.tree.now.index l.n.element.0 (want_at l.x.want).class (word_at l.x.word) l.ended l.initial.planner l.planner l.j
 
 abbrev pub decreases-each-loop-j : goal.decreases-each-loop-j
 decreases-each-loop-j l = l.end - l.j
 
-abbrev pub invariant-kids-loop-i : goal.invariant-kids-loop-i
-invariant-kids-loop-i l = Walking l.tree.image l.tree.index l.i.0 l.w l.loose l.b (around (under l.tree.image l.i.0) (on_line l.style (condition_test l.t)) (behind_it l.style (condition_test l.t))) l.initial.s l.initial.planner l.planner l.s
+abbrev pub invariant-kids-loop-z : goal.invariant-kids-loop-z
+invariant-kids-loop-z l = Walking l.n.tree.now.image l.n.tree.now.index l.n.element.0 l.w l.z.loose l.z.to (around (under l.n.tree.now.image l.n.element.0) (on_line l.style (condition_test l.t)) (behind_it l.style (condition_test l.t))) l.initial.s l.initial.planner l.planner l.s
 
-abbrev pub decreases-kids-loop-i : goal.decreases-kids-loop-i
-decreases-kids-loop-i l = l.b - l.s.to
+abbrev pub decreases-kids-loop-z : goal.decreases-kids-loop-z
+decreases-kids-loop-z l = l.z.to - l.s.to
 
-abbrev pub invariant-row-loop-n : goal.invariant-row-loop-n
-invariant-row-loop-n l = Rowing l.tree.image l.tree.index l.i.0 l.m l.n-end l.initial.planner l.planner l.n
+abbrev pub invariant-row-loop-k : goal.invariant-row-loop-k
+invariant-row-loop-k l = Rowing l.n.tree.now.image l.n.tree.now.index l.n.element.0 l.m l.k-end l.initial.planner l.planner l.k
 
-abbrev pub invariant-stmts-loop-i : goal.invariant-stmts-loop-i
-invariant-stmts-loop-i l = Walking l.tree.image l.tree.index l.i.0 l.w l.z.loose l.z.to (stated (under l.tree.image l.i.0)) l.initial.s l.initial.planner l.planner l.s
+abbrev pub invariant-stmts-loop-z : goal.invariant-stmts-loop-z
+invariant-stmts-loop-z l = Walking l.n.tree.now.image l.n.tree.now.index l.n.element.0 l.w l.z.loose l.z.to (stated (under l.n.tree.now.image l.n.element.0)) l.initial.s l.initial.planner l.planner l.s
 
-abbrev pub decreases-stmts-loop-i : goal.decreases-stmts-loop-i
-decreases-stmts-loop-i l = l.z.to - l.s.to
+abbrev pub decreases-stmts-loop-z : goal.decreases-stmts-loop-z
+decreases-stmts-loop-z l = l.z.to - l.s.to
 
 abbrev pub invariant-values-loop-z : goal.invariant-values-loop-z
-invariant-values-loop-z l = Valuing l.tree.image l.tree.index l.w l.z l.initial.s l.initial.planner l.planner l.s
+invariant-values-loop-z l = Valuing l.n.tree.now.image l.n.tree.now.index l.w l.z l.initial.s l.initial.planner l.planner l.s
 
 abbrev pub decreases-values-loop-z : goal.decreases-values-loop-z
 decreases-values-loop-z l = l.z.to - l.s.to

@@ -1,7 +1,7 @@
 use Rattle.printer.proofs.Looking.{plus-found}
 use Rattle.printer.proofs.Marking.{plus-unmarked}
 use Rattle.printer.proofs.Under.{at-region}
-use Rattle.printer.proofs.look.plus_part.Goals as goal
+use Rattle.printer.proofs.node.Node.plus_part.Goals as goal
 
 pub returns-then-not-is_marked : goal.returns-then-not-is_marked
 returns-then-not-is_marked c = search plus-unmarked

@@ -1,7 +1,7 @@
 use Rattle.printer.proofs.Looking.{first_found}
 use Rattle.printer.proofs.Marking.{want-absent}
 use Rattle.printer.proofs.Under.{at-region}
-use Rattle.printer.proofs.look.wanted_part.Goals as goal
+use Rattle.printer.proofs.node.Node.wanted_part.Goals as goal
 
 pub returns-then-not-is_marked : goal.returns-then-not-is_marked
 returns-then-not-is_marked c = search want-absent

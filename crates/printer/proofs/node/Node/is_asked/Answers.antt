@@ -1,6 +1,6 @@
 use Rattle.printer.proofs.Looking.{asked_by, asked-always}
 use Rattle.printer.proofs.Marking.{marks-told}
-use Rattle.printer.proofs.look.is_asked.Goals as goal
+use Rattle.printer.proofs.node.Node.is_asked.Goals as goal
 
 pub returns-then-not-x : goal.returns-then-not-x
 returns-then-not-x c = search asked-always

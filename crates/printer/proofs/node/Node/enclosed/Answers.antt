@@ -1,5 +1,5 @@
 use Rattle.printer.proofs.Looking.{first-has, ends-has}
-use Rattle.printer.proofs.look.enclosed.Goals as goal
+use Rattle.printer.proofs.node.Node.enclosed.Goals as goal
 
 pub bounds_between-requires : goal.bounds_between-requires
 bounds_between-requires c = search (ends-has, first-has)

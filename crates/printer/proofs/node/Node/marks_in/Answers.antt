@@ -1,5 +1,5 @@
 use Rattle.printer.proofs.Marking.{marks-any, marking-none, marking-less, marking-more, marking-all}
-use Rattle.printer.proofs.look.marks_in.Goals as goal
+use Rattle.printer.proofs.node.Node.marks_in.Goals as goal
 
 pub returns-then-not-asked : goal.returns-then-not-asked
 returns-then-not-asked c = search marks-any
