@@ -1,11 +1,11 @@
 -- Jumps from sibling to sibling.
 use mathlib.Core.Path.{◌≡◌, refl}
-use mathlib.Core.Bool.{Bool, true, false, not, ◌&&◌, ◌||◌}
+use mathlib.Core.Bool.{Bool, true, false, ◌&&◌, ◌||◌}
 use mathlib.Core.List.{List}
 use Prim.Native.Nat.{ℕ, ◌<◌, ◌≤◌}
 use native.Mathlib.Omega.{arith}
 use native.Mathlib.Decide.{dec_lt}
-use lib.Dec.{leb, eqb}
+use lib.Dec.{leb}
 use borrow.Author.Tests.{le-leb, lt-leb, leb-true, leb-false}
 use Rattle.tree.specs.Tree.{Part}
 use Rattle.tree.specs.Class.{kinds, one_of}
@@ -18,13 +18,9 @@ pub note-kinds : (x : Part) → is_note x ≡ one_of notes x.kind
 unfolding one_of kinds
 note-kinds x = go (leb x.kind 69) refl (leb 64 x.kind) refl
   where
-    or_false : (a : Bool) → (a || false) ≡ a
-    or_false true = refl
-    or_false false = refl
-
     go : (u : Bool) → leb x.kind 69 ≡ u → (l : Bool) → leb 64 x.kind ≡ l
-        → (((l && u) && not (eqb x.kind 0)) || ((leb 70 x.kind && leb x.kind 72) && not (eqb x.kind 0))) ≡ ((l && leb x.kind 72) && not (eqb x.kind 0))
-    go true p true q = rw (lt-leb 70 x.kind (omega (arith, leb-true x.kind 69 p)), le-leb x.kind 72 (omega (arith, leb-true x.kind 69 p))) (or_false (not (eqb x.kind 0)))
+        → (((l && u) && true) || ((leb 70 x.kind && leb x.kind 72) && true)) ≡ ((l && leb x.kind 72) && true)
+    go true p true q = rw (le-leb x.kind 72 (omega (arith, leb-true x.kind 69 p)))
     go true p false q = rw (lt-leb 70 x.kind (omega (arith, leb-true x.kind 69 p)))
     go false p true q = rw (le-leb 70 x.kind (omega (arith, leb-false x.kind 69 p)))
     go false p false q = absurd (omega (arith, leb-false x.kind 69 p, leb-false 64 x.kind q))

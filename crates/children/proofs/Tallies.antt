@@ -21,16 +21,16 @@ use Rattle.children.specs.Tally.{counted, speaks, closes, Tells}
 pub not_error : (x : Part) → is Class.Trivia x ≡ true → is Class.CustomError x ≡ false
 unfolding one_of kinds
 not_error x e =
-    let (p, q) = and_true (leb 64 x.kind && leb x.kind 69) (not (eqb x.kind 0)) e in
+    let (p, _) = and_true (leb 64 x.kind && leb x.kind 69) true e in
     let (u, v) = and_true (leb 64 x.kind) (leb x.kind 69) p in
     rw (lt-leb 70 x.kind (omega (arith, leb-true x.kind 69 v)))
 
 single-trivia : (k : ℕ) → of_kind Class.SingleLine k ≡ true → of_kind Class.Trivia k ≡ true
 unfolding one_of kinds
 single-trivia k e =
-    let (p, q) = and_true (leb 68 k && leb k 69) (not (eqb k 0)) e in
+    let (p, _) = and_true (leb 68 k && leb k 69) true e in
     let (u, v) = and_true (leb 68 k) (leb k 69) p in
-    rw (v, le-leb 64 k (omega (arith, leb-true 68 k u)), q)
+    rw (v, le-leb 64 k (omega (arith, leb-true 68 k u)))
 
 space-trivia : (k : ℕ) → k ≡ 64 → of_kind Class.Trivia k ≡ true
 unfolding one_of kinds

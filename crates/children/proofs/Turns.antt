@@ -1,11 +1,11 @@
 -- What an element does to a gap, from the tests that the code makes.
 use mathlib.Core.Path.{◌≡◌, refl, ◌∙◌, sym}
-use mathlib.Core.Bool.{Bool, true, false, cond, not, ◌&&◌, and-true}
+use mathlib.Core.Bool.{Bool, true, false, cond, ◌&&◌, and-true}
 use mathlib.Core.List.{List}
 use Prim.Native.Nat.{ℕ, ◌<◌, ◌≤◌}
 use native.Mathlib.Omega.{arith}
 use lib.Dec.{leb, ltb, eqb}
-use borrow.Author.Tests.{le-leb, lt-leb, leb-true, ltb-true, ltb-false, eqb-true, eqb-false, eq-eqb, ne_eqb}
+use borrow.Author.Tests.{le-leb, lt-leb, ltb-true, ltb-false, eqb-true, eqb-false, eq-eqb, ne_eqb}
 use Rattle.tree.specs.declared.class.Kinds.{Kinds}
 use Rattle.tree.specs.Class.{from, one_of, kinds}
 use Rattle.text.specs.Basic.{count}
@@ -29,14 +29,10 @@ le_is a k = go (ltb a k) refl (eqb a k) refl
     go false p true q = sym (le-leb a k (omega (arith, eqb-true a k q)))
     go false p false q = sym (lt-leb a k (omega (arith, ltb-false a k p, eqb-false a k q)))
 
--- a class of all kinds from a to b: none of them is 0
-pub range_is : (a b k : ℕ) → 0 < a → (is_le (cond (ltb a k) Less (cond (eqb a k) Equal Greater)) && is_le (cond (ltb k b) Less (cond (eqb k b) Equal Greater))) ≡ one_of (from a b) k
+-- a class of all kinds from a to b
+pub range_is : (a b k : ℕ) → (is_le (cond (ltb a k) Less (cond (eqb a k) Equal Greater)) && is_le (cond (ltb k b) Less (cond (eqb k b) Equal Greater))) ≡ one_of (from a b) k
 unfolding one_of
-range_is a b k h = rw (le_is a k, le_is k b) (go (leb a k) refl)
-  where
-    go : (u : Bool) → leb a k ≡ u → (u && leb k b) ≡ ((u && leb k b) && not (eqb k 0))
-    go true e = rw (ne_eqb k 0 (λ z. omega (arith, leb-true a k e))) (sym (and-true (leb k b)))
-    go false e = refl
+range_is a b k = rw (le_is a k, le_is k b) (sym (and-true (leb a k && leb k b)))
 
 -- ---- space_of, feeds_of
 

@@ -103,7 +103,7 @@ pub fn note_kinds() -> Kinds
     Kinds {
         lo: kind::WHITESPACE,
         hi: kind::ERROR_CUSTOM,
-        but: 0,
+        but: None,
     }
 }
 

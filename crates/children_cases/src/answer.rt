@@ -82,7 +82,7 @@ fn mix_waiting(tree: &Tree, s: Span, h: u32) -> u32 {
     let notes = Kinds {
         lo: 64,
         hi: 72,
-        but: 0,
+        but: None,
     };
     mix(mix_all(tree, notes, s.cut, s.to, n), SIGN)
 }

@@ -12,7 +12,7 @@ use Rattle.text.proofs.Below.{all_below, below, agree, same-below}
 use Rattle.tree.specs.Tree.{Part}
 use Rattle.tree.specs.declared.class.Kinds.{Kinds}
 use Rattle.tree.specs.declared.class.Class.TheVariants as Class
-use Rattle.tree.specs.Class.{kinds, one_of, of_kind, is, is_plus, nth_of, nth, plus_of, number_of}
+use Rattle.tree.specs.Class.{kinds, left_out, one_of, of_kind, is, is_plus, nth_of, nth, plus_of, number_of}
 use Rattle.tree.specs.Index.{kind_at, end_at, parts_from, Region}
 use Rattle.tree.proofs.Passing.{or_false}
 use Rattle.tree.proofs.Siblings.{region-part, region-past, region-next, parts-over}
@@ -43,7 +43,7 @@ marks-beyond n {k} h t = record { of-class = λ w v. none-marked w v ∙ sym (go
     go : (w : ℕ) → (kinds (want_at w).class).hi < n → of_kind (want_at w).class k ≡ false
     go w v = rw (lt-leb k (kinds (want_at w).class).hi (omega arith)) (no (leb (kinds (want_at w).class).lo k))
       where
-        no : (b : Bool) → ((b && false) && not (eqb k (kinds (want_at w).class).but)) ≡ false
+        no : (b : Bool) → ((b && false) && not (left_out (kinds (want_at w).class).but k)) ≡ false
         no true = refl
         no false = refl
 

@@ -11,7 +11,7 @@ use Rattle.plan.specs.Words.{word_count}
 use Rattle.printer.specs.declared.rows.Entry.{Entry}
 use Rattle.printer.specs.declared.rows.Extent.{Extent}
 use Rattle.printer.specs.Layout.{layout}
-use Rattle.printer.specs.Rows.{want_count, piece_count, want_at, piece_at, piece_of, tested, settled, all_pieces, bits_at, part_named, entry_of, extent_of, kinds_in, Coded, RowOf, WantOf}
+use Rattle.printer.specs.Rows.{want_count, piece_count, want_at, piece_at, piece_of, tested, settled, all_pieces, bits_at, option_at, entry_of, extent_of, kinds_in, Coded, RowOf, WantOf}
 
 -- ---- wanted parts
 
@@ -20,7 +20,7 @@ pub want-coded : (k : ℕ) {w n : ℕ} → w ≡ k → kinds_in n ≡ kinds (wan
 want-coded k e f g = rw e (record { class-kinds = f; which = g })
 
 -- three numbers are its kinds
-pub want-kinds : {w n a b d : ℕ} → WantOf w n → a ≡ bits_at n 0 → b ≡ bits_at n 8 → d ≡ bits_at n 16 → record { lo = a; hi = b; but = d } ≡ kinds (want_at w).class
+pub want-kinds : {w n a b : ℕ} {d : Option ℕ} → WantOf w n → a ≡ bits_at n 0 → b ≡ bits_at n 8 → d ≡ option_at n 16 → record { lo = a; hi = b; but = d } ≡ kinds (want_at w).class
 want-kinds h e f g = rw (e, f, g) h.class-kinds
 
 -- ---- pieces
@@ -58,7 +58,7 @@ coded k {q} {x} e p t b =
     })
 
 -- whether it goes by parts, and its six numbers, each by itself
-pub coded_by : (n : ℕ) {q d e f : ℕ} {a b c : Option ℕ} {t : Bool} → Coded q (entry_of n) → t ≡ not (eqb (n % 16777216) 0) → a ≡ part_named n 0 → b ≡ part_named n 8 → c ≡ part_named n 16
+pub coded_by : (n : ℕ) {q d e f : ℕ} {a b c : Option ℕ} {t : Bool} → Coded q (entry_of n) → t ≡ not (eqb (n % 16777216) 0) → a ≡ option_at n 0 → b ≡ option_at n 8 → c ≡ option_at n 16
     → d ≡ bits_at n 24 → e ≡ bits_at n 32 → f ≡ bits_at n 40 → Coded q (record { tested = t; given = a; other = b; unless = c; what = d; want = e; word = f })
 coded_by n h t i j k l m o = rw (t, i, j, k, l, m, o) h
 

@@ -95,13 +95,13 @@ settled x = settled_as (what_in x.what) x.want x.word
 abbrev pub bits_at : ℕ → ℕ → ℕ
 bits_at n s = n / 2 ^ s % 256
 
--- the wanted part whose number stands there; number 0 is none
-abbrev pub part_named : ℕ → ℕ → Option ℕ
-part_named n s = cond (bits_at n s == 0) None (Some (bits_at n s))
+-- the number that stands there; 0 is none
+abbrev pub option_at : ℕ → ℕ → Option ℕ
+option_at n s = cond (bits_at n s == 0) None (Some (bits_at n s))
 
 -- the entry that stands in a table's number
 abbrev pub entry_of : ℕ → Entry
-entry_of n = record { tested = not (n % 16777216 == 0); given = part_named n 0; other = part_named n 8; unless = part_named n 16; what = bits_at n 24; want = bits_at n 32; word = bits_at n 40 }
+entry_of n = record { tested = not (n % 16777216 == 0); given = option_at n 0; other = option_at n 8; unless = option_at n 16; what = bits_at n 24; want = bits_at n 32; word = bits_at n 40 }
 
 -- the row that stands in it
 abbrev pub extent_of : ℕ → Extent
@@ -109,7 +109,7 @@ extent_of n = record { start = bits_at n 0; end = bits_at n 8; marks = not (bits
 
 -- the kinds that stand in it
 abbrev pub kinds_in : ℕ → Kinds
-kinds_in n = record { lo = bits_at n 0; hi = bits_at n 8; but = bits_at n 16 }
+kinds_in n = record { lo = bits_at n 0; hi = bits_at n 8; but = option_at n 16 }
 
 -- The entry of piece q: what it means, and that its numbers are in the tables.
 pub record Coded (q : ℕ) (x : Entry) : Type 0 where

@@ -1,7 +1,7 @@
 // The rows of pieces: what nodes with a fixed layout print.
 ghost use Rattle.std.specs.Prelude.{◌≡◌, ◌<◌};
 ghost use Rattle.tree.specs.Class.{kinds};
-ghost use Rattle.printer.specs.Rows.{want_at, bits_at, part_named, what_in, entry_of, extent_of, Coded, RowOf, WantOf, MarksOf, want_count, piece_count};
+ghost use Rattle.printer.specs.Rows.{want_at, bits_at, option_at, what_in, entry_of, extent_of, Coded, RowOf, WantOf, MarksOf, want_count, piece_count};
 
 use items::Signal;
 use tree::class::Kinds;
@@ -303,10 +303,10 @@ fn piece_code(q: u32) -> u64
     }
 }
 
-// The wanted part whose number stands there; number 0 is none.
-fn part_named(code: u64, place: u32) -> Option<u32>
+// The number that stands there; 0 is none.
+fn option_at(code: u64, place: u32) -> Option<u32>
     requires { place < 64 }
-    ensures { result ≡ part_named code place }
+    ensures { result ≡ option_at code place }
 {
     match bits_at(code, place) {
         0 => None,
@@ -338,9 +338,9 @@ pub fn entry_at(q: u32) -> Entry
     let code = piece_code(q);
     Entry {
         tested: code % CONDITION != 0,
-        given: part_named(code, 0),
-        other: part_named(code, 8),
-        unless: part_named(code, 16),
+        given: option_at(code, 0),
+        other: option_at(code, 8),
+        unless: option_at(code, 16),
         what: bits_at(code, 24),
         want: bits_at(code, 32),
         word: bits_at(code, 40),
@@ -400,7 +400,7 @@ pub fn kinds_wanted(w: u32) -> Kinds
     Kinds {
         lo: bits_at(code, 0),
         hi: bits_at(code, 8),
-        but: bits_at(code, 16),
+        but: option_at(code, 16),
     }
 }
 

@@ -1,5 +1,6 @@
 -- Classes of kinds, as accessors and readings look for them, and the accessors of nodes.rs.
-use Rattle.std.specs.Prelude.{Bool, cond, not, ◌&&◌, List, [], ◌∷◌, ℕ, zero, suc, leb, eqb}
+use Rattle.std.specs.Prelude.{Some, None, false, Bool, cond, not, ◌&&◌, List, [], ◌∷◌, ℕ, zero, suc, leb, eqb}
+use Rattle.std.specs.declared.option.Option as std
 use Rattle.std.proofs.Math.Option.{Option, none, some}
 use Rattle.text.specs.Basic.{ascii, or_else, same_bytes}
 use Rattle.tree.specs.Tree.{Part}
@@ -9,11 +10,15 @@ pub use Rattle.tree.specs.declared.class.Kinds.{Kinds}
 
 -- all kinds from a to b
 abbrev pub from : ℕ → ℕ → Kinds
-from a b = record { lo = a; hi = b; but = 0 }
+from a b = record { lo = a; hi = b; but = None }
 
 -- one kind
 abbrev pub only : ℕ → Kinds
 only a = from a a
+
+-- all kinds from a to b but one
+abbrev pub without : ℕ → ℕ → ℕ → Kinds
+without a b n = record { lo = a; hi = b; but = Some n }
 
 -- 'Kinds of nodes' and 'Kinds of tokens'
 unfoldable pub kinds : Class → Kinds
@@ -24,7 +29,7 @@ kinds Stmt = from 22 23
 kinds Bind = from 24 25
 kinds ObjBody = from 26 27
 kinds Member = from 28 31
-kinds MemberComp = record { lo = 28; hi = 31; but = 29 }
+kinds MemberComp = without 28 31 29
 kinds CompSpec = from 32 34
 kinds Destruct = from 35 38
 kinds DestructArrayPart = from 39 40
@@ -53,7 +58,7 @@ kinds Literal = only 88
 kinds ImportKind = only 89
 kinds Ident = only 90
 kinds Operator = from 91 93
-kinds BinaryOperator = record { lo = 91; hi = 93; but = 92 }
+kinds BinaryOperator = without 91 93 92
 kinds UnaryOperator = from 92 93
 kinds Separator = from 94 95
 kinds Semi = only 95
@@ -69,9 +74,14 @@ kinds Assign = only 104
 kinds Local = only 105
 kinds Else = only 106
 
+-- a kind is the one that is left out
+abbrev pub left_out : std.Option ℕ → ℕ → Bool
+left_out None k = false
+left_out (Some n) k = eqb k n
+
 -- a kind is one of these
 unfoldable pub one_of : Kinds → ℕ → Bool
-one_of w k = (leb w.lo k && leb k w.hi) && not (eqb k w.but)
+one_of w k = (leb w.lo k && leb k w.hi) && not (left_out w.but k)
 
 -- a kind is of the class: can_cast
 abbrev pub of_kind : Class → ℕ → Bool

@@ -1,6 +1,6 @@
 // Classes of kinds, as accessors and readings look for them.
 ghost use Rattle.std.specs.Prelude.{◌≡◌};
-ghost use Rattle.tree.specs.Class.{kinds, one_of};
+ghost use Rattle.tree.specs.Class.{from, only, without, kinds, one_of};
 
 use numbers::kind;
 
@@ -60,33 +60,37 @@ pub enum Class {
     Else,
 }
 
-// The kinds of a class: from lo to hi, but for one; no kind is 0.
+// The kinds of a class: from lo to hi, but for one, if any.
 #[derive(Clone, Copy)]
 pub struct Kinds {
     pub lo: u32,
     pub hi: u32,
-    pub but: u32,
+    pub but: Option<u32>,
 }
 
 // All kinds from lo to hi.
 fn from(lo: u32, hi: u32) -> Kinds
-    ensures { result ≡ record { lo = lo; hi = hi; but = 0 } }
+    ensures { result ≡ from lo hi }
 {
-    Kinds { lo, hi, but: 0 }
+    Kinds { lo, hi, but: None }
 }
 
 // One kind.
 fn only(k: u32) -> Kinds
-    ensures { result ≡ record { lo = k; hi = k; but = 0 } }
+    ensures { result ≡ only k }
 {
     from(k, k)
 }
 
 // All kinds from lo to hi, but for one.
 fn without(lo: u32, hi: u32, but: u32) -> Kinds
-    ensures { result ≡ record { lo = lo; hi = hi; but = but } }
+    ensures { result ≡ without lo hi but }
 {
-    Kinds { lo, hi, but }
+    Kinds {
+        lo,
+        hi,
+        but: Some(but),
+    }
 }
 
 // The kinds of a class.
@@ -161,5 +165,5 @@ pub fn kinds_of(c: Class) -> Kinds
 pub fn is(w: Kinds, k: u32) -> bool
     ensures { result ≡ one_of w k }
 {
-    (w.lo..=w.hi).contains(&k) & (k != w.but)
+    (w.lo..=w.hi).contains(&k) & (w.but != Some(k))
 }

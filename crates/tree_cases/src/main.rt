@@ -2,7 +2,7 @@
 // prints how many answers agree with those in the files.
 #![tactic(auto)]
 
-ghost use Rattle.std.specs.Prelude.{◌≡◌, slice_index};
+ghost use Rattle.std.specs.Prelude.{◌≡◌, ◌==◌, cond, Some, None, slice_index};
 ghost use Rattle.tree.specs.Index.{Indexed};
 
 use cases::{
@@ -85,16 +85,19 @@ fn is_table(table: &[u32], want: &[u8]) -> bool {
     (0..want.len() / 2).all(|i| word(table, i) == number(behind(want, i * 2)) as u32)
 }
 
-// The kinds that are asked for.
+// The kinds that are asked for; 0 leaves none out.
 fn wanted(args: &[u8]) -> Kinds
-    ensures lo_value { result.lo ≡ slice_index args.now 2 }
-    ensures hi_value { result.hi ≡ slice_index args.now 3 }
-    ensures but_value { result.but ≡ slice_index args.now 4 }
+    ensures lo { result.lo ≡ slice_index args.now 2 }
+    ensures hi { result.hi ≡ slice_index args.now 3 }
+    ensures but { result.but ≡ cond (slice_index args.now 4 == 0) None (Some (slice_index args.now 4)) }
 {
     Kinds {
         lo: byte(args, 2) as u32,
         hi: byte(args, 3) as u32,
-        but: byte(args, 4) as u32,
+        but: match byte(args, 4) {
+            0 => None,
+            k => Some(k as u32),
+        },
     }
 }
 
