@@ -90,7 +90,8 @@ pub fn trivia_before(tree: &Tree, e: Option<Element>, a: u32, b: u32) -> Notes
     }
 }
 
-// The trivia behind an expression among the elements from a on that begin before b; without one, nothing.
+// The trivia behind an expression among the elements from a on that begin before b; without one, nothing, where `trivia_before` has what
+// comes first.
 pub fn trivia_after(tree: &Tree, e: Option<Element>, a: u32, b: u32) -> Notes
     requires { Ends tree.now.image tree.now.index a b (found e) none }
     ensures { AfterIn tree (found e) a b result }

@@ -22,8 +22,9 @@ pub struct Count {
     pub marks: u32,
 }
 
-// How much is put: records, bytes of their texts and, where the records are listed, of the lines that list them. Printing gives an
-// `Option<Size>`: none where it is full, since a number of the size or an operand would no longer fit 32 bits.
+// How much is put: records, bytes of their texts and, where the records are listed, of the lines that list them: where they are not, that is
+// 0, which every sum takes as it is. Printing gives an `Option<Size>`: none where it is full, since a number of the size or an operand would no
+// longer fit 32 bits.
 #[derive(Clone, Copy)]
 pub struct Size {
     pub records: u32,
@@ -226,8 +227,9 @@ fn line_if(listed: bool, n: u32, kind: u32, first: u32, second: u32) -> u64
     lines::line_length(n, kind, first, second)
 }
 
-// Puts a text, also one of no bytes, behind what was put. Its numbers must fit; no line is counted, so records are not listed. This and
-// `put_plain` are no methods of `Output`, whose size may be none: where all numbers fit, nothing is ever full.
+// Puts a text, also one of no bytes, behind what was put. Its numbers must fit, of which no type tells, since that goes by the item and by
+// the size; no line is counted, so records are not listed. This and `put_plain` are no methods of `Output`, whose size may be none: where all
+// numbers fit, nothing is ever full.
 pub fn put_text(records: &mut [u32], texts: &mut [u8], s: &[u8], p: Size) -> Size
     requires listed_value { p.listed ≡ false }
     requires p_value { all_fit (text s.now ∷ []) p ≡ true }

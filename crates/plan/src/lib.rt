@@ -38,7 +38,7 @@ pub struct Plan {
 }
 
 // A plan in the making: a lent array with the operations so far, whether planning goes on, how many operations and runs there are, and the
-// mode.
+// mode. It holds no tree: words, signals and runs are planned for every tree.
 #[derive(Drop)]
 pub struct Planner<'a> {
     ops: &'a mut [u32],

@@ -114,7 +114,8 @@ fn count_op(tree: &Tree, all: &[u8], op: u32, p: Size) -> Size
     count_plain(k, v, p)
 }
 
-// The size of the first n operations of a plan, with their lines where they are listed. All numbers must fit.
+// The size of the first n operations of a plan, with their lines where they are listed. All numbers must fit. The loop of `write_ops` calls
+// another function with two more slices, and so does not take this one's place.
 pub fn count_ops(tree: &Tree, ops: &[u32], n: usize, listed: bool) -> Size
     requires n_in_bounds { n ≤ length ops.now }
     requires listed_value { all_fit (decoded tree.now ops.now n) (no_size listed) ≡ true }

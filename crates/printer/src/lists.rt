@@ -132,7 +132,8 @@ pub fn keep_waiting(planner: &mut Planner, tree: &Tree, s: Span, loc: CommentLoc
     }
 }
 
-// The inline trivia of a gap, if it is kept.
+// The inline trivia of a gap, if it is kept. One function for this and `keep_waiting` would take the other call as a closure, whose contract is longer
+// than both.
 pub fn keep_inline(planner: &mut Planner, tree: &Tree, g: Span, loc: CommentLocation)
     requires { Lies tree.now.image tree.now.index g }
     ensures { PlansIn planner tree (keeping (comments (gap_in tree g).inline (place loc))) }
