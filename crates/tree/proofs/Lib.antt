@@ -21,3 +21,4 @@ mod Sums
 mod Tries
 mod Verdict
 pub mod Walk
+pub mod Yielding
