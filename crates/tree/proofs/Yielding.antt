@@ -4,7 +4,7 @@ use mathlib.Core.Bool.{Bool, true, false, cond}
 use mathlib.Core.Option as math
 use mathlib.Core.Option.{none, some}
 use mathlib.Core.List.{List, [], ◌∷◌, map}
-use Prim.Native.Nat.{ℕ, zero, suc, ◌-◌, ◌<◌}
+use Prim.Native.Nat.{ℕ, zero, suc, ◌-◌, ◌<◌, ◌≤◌}
 use native.Mathlib.Omega.{arith}
 use lib.ListN.{length}
 use Rattle.std.specs.Prelude.{Option, Some, None}
@@ -33,29 +33,47 @@ forward-less {a = a} f h e = omega (arith, f.past a (omega arith) h)
 
 -- ---- all that they give
 
--- of the siblings in s, of a tree with this image and this index
-record Left (image index : List ℕ) (b : ℕ) (s : Siblings) : Type 0 where
+-- What is left of the siblings of a tree that begin before b.
+pub record Left (image index : List ℕ) (b : ℕ) (s : Siblings) : Type 0 where
   pub region : Region image index s.next b
   pub indexed : s.index.now ≡ index
   pub ended : s.end ≡ b
 
-abbrev steps : Siblings → Option Element → Siblings → Type 0
+abbrev pub steps : Siblings → Option Element → Siblings → Type 0
 steps s r t = (t.index.now ≡ s.index.now) × (t.end ≡ s.end) × GivesSibling s.index.now s.next s.end r t.next
+
+pub left-first : {image index : List ℕ} {a b : ℕ} {s : Siblings} → Region image index a b → s.index.now ≡ index → s.next ≡ a → s.end ≡ b → Left image index b s
+left-first r e f g = record { region = rw f r; indexed = e; ended = g }
+
+module _ {image index : List ℕ} {b : ℕ} {s : Siblings} (l : Left image index b s) (t : Siblings) {r : Option Element} (h : steps s r t) where
+  pub left-over : r ≡ None → b ≤ s.next
+  left-over e = omega (arith, l.ended, (rw e at h).2.0)
+
+  module _ {x : Element} (e : r ≡ Some x) where
+    given : (s.next < s.end) × (x.0 ≡ s.next) × (t.next ≡ end_at s.index.now s.next)
+    given = (rw e at h).2
+
+    pub left-before : s.next < b
+    left-before = omega (arith, l.ended, given.0)
+
+    pub left-is : x.0 ≡ s.next
+    left-is = given.1
+
+    pub left-end : t.next ≡ end_at index s.next
+    left-end = rw (← l.indexed) given.2
+
+    pub left-next : Left image index b t
+    left-next = record { region = rw left-end (region-next l.region left-before); indexed = h.0 ∙ l.indexed; ended = h.1 ∙ l.ended }
 
 module _ {image index : List ℕ} {b : ℕ} where
   nothing : (s t : Siblings) → Left image index b s → steps s None t → length (parts_from image index s.next b) ≡ 0
-  nothing s t l h = ap length (parts-over index image s.next b (omega (arith, l.ended, h.2.0)))
+  nothing s t l h = ap length (parts-over index image s.next b (left-over l t h refl))
 
   first : (s : Siblings) (x : Element) (t : Siblings) → Left image index b s → steps s (Some x) t → Left image index b t × (parts_from image index s.next b ≡ part_at image index x.0 ∷ parts_from image index t.next b)
-  first s x t l h =
-      let m : s.next < b = omega (arith, l.ended, h.2.0) in
-      let k : t.next ≡ end_at index s.next = rw (← l.indexed) h.2.2 in (
-        record { region = rw k (region-next l.region m); indexed = h.0 ∙ l.indexed; ended = h.1 ∙ l.ended },
-        rw (h.2.1, k) (region-part l.region m),
-      )
+  first s x t l h = (left-next l t h refl, rw (left-is l t h refl, left-end l t h refl) (region-part l.region (left-before l t h refl)))
 
 pub siblings-yield : {image index : List ℕ} {a b : ℕ} {s : Siblings} → Region image index a b → s.index.now ≡ index → s.next ≡ a → s.end ≡ b → YieldsList steps (λ x. part_at image index x.0) s (parts_from image index a b)
-siblings-yield {image} {index} {a} {b} {s} r e f g = rw (← f) (YieldsList-from_shown_while steps (λ x. part_at image index x.0) (λ u. parts_from image index u.next b) (Left image index b) nothing first s (record { region = rw f r; indexed = e; ended = g }))
+siblings-yield {image} {index} {a} {b} {s} r e f g = rw (← f) (YieldsList-from_shown_while steps (λ x. part_at image index x.0) (λ u. parts_from image index u.next b) (Left image index b) nothing first s (left-first r e f g))
 
 -- ---- what is found
 
@@ -84,15 +102,6 @@ module _ (w : Kinds) where
   -- a part is of these kinds
   abbrev pub kindly : Part → Bool
   kindly x = one_of w x.kind
-
-  pub find-first : (xs : List Part) → same (find kindly xs) ≡ nth_of w 0 xs
-  unfolding nth_of
-  find-first [] = refl
-  find-first (x ∷ xs) = go (kindly x) (find-first xs)
-    where
-      go : (t : Bool) → same (find kindly xs) ≡ nth_of w 0 xs → same (cond t (Some x) (find kindly xs)) ≡ cond t (some x) (nth_of w 0 xs)
-      go true h = refl
-      go false h = h
 
   pub filter-nth : (n : ℕ) (xs : List Part) → same (slice_get (filter kindly xs) n) ≡ nth_of w n xs
   unfolding nth_of

@@ -1,6 +1,5 @@
 // Reading the index: an element's numbers and text, and the parts of a region by their kinds.
-ghost use Rattle.std.specs.Prelude.{◌≡◌, cond, ◌-◌, get_or};
-ghost use Rattle.std.proofs.Math.Option.{some};
+ghost use Rattle.std.specs.Prelude.{◌≡◌, get_or};
 ghost use Rattle.text.specs.Basic.{ascii, same_bytes};
 ghost use Rattle.tree.specs.Answer.{found};
 ghost use Rattle.tree.specs.Class.{is_plus, nth_of, last_of, plus_of, number_of};
@@ -107,14 +106,6 @@ impl<'a> Tree<'a> {
             next: a,
             end: b,
         }
-    }
-
-    // The first part of these kinds of the siblings from a on that begin before b.
-    pub fn first_from(&self, w: Kinds, a: u32, b: u32) -> Option<Element>
-        requires { Region self.now.image self.now.index a b }
-        ensures { found result ≡ number_of (nth_of w 0 (parts_from self.now.image self.now.index a b)) }
-    {
-        self.siblings(a, b).find(|j| is(w, self.kind_at(j.0)))
     }
 
     // The n-th part of these kinds, from 0, of the siblings from a on that begin before b.

@@ -1,7 +1,0 @@
-use Rattle.std.proofs.Common.{rules}
-use Rattle.std.proofs.lemmas.Iterator.Search.{find_from_yields_List}
-use Rattle.tree.proofs.Yielding.{kindly, siblings-yield, found-part, find-first}
-use Rattle.tree.proofs.access.Tree.first_from.Goals as goal
-
-pub returns : goal.returns
-returns c = found-part _ _ _ (find_from_yields_List (kindly _) c.find.new.self _ _ c.find.ensures.ran (siblings-yield c.requires c.siblings.ensures.index_value c.siblings.ensures.next_value c.siblings.ensures.end_value) (λ x b q k. search rules)) (find-first _ _)
