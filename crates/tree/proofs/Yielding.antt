@@ -45,32 +45,22 @@ steps s r t = (t.index.now ≡ s.index.now) × (t.end ≡ s.end) × GivesSibling
 pub left-first : {image index : List ℕ} {a b : ℕ} {s : Siblings} → Region image index a b → s.index.now ≡ index → s.next ≡ a → s.end ≡ b → Left image index b s
 left-first r e f g = record { region = rw f r; indexed = e; ended = g }
 
-module _ {image index : List ℕ} {b : ℕ} {s : Siblings} (l : Left image index b s) (t : Siblings) {r : Option Element} (h : steps s r t) where
-  pub left-over : r ≡ None → b ≤ s.next
-  left-over e = omega (arith, l.ended, (rw e at h).2.0)
+module _ {image index : List ℕ} {b j : ℕ} {s : Siblings} (l : Left image index b s) (e : s.next ≡ j) (t : Siblings) where
+  pub left-over : steps s None t → b ≤ j
+  left-over h = omega (arith, e, l.ended, h.2.0)
 
-  module _ {x : Element} (e : r ≡ Some x) where
-    given : (s.next < s.end) × (x.0 ≡ s.next) × (t.next ≡ end_at s.index.now s.next)
-    given = (rw e at h).2
-
-    pub left-before : s.next < b
-    left-before = omega (arith, l.ended, given.0)
-
-    pub left-is : x.0 ≡ s.next
-    left-is = given.1
-
-    pub left-end : t.next ≡ end_at index s.next
-    left-end = rw (← l.indexed) given.2
-
-    pub left-next : Left image index b t
-    left-next = record { region = rw left-end (region-next l.region left-before); indexed = h.0 ∙ l.indexed; ended = h.1 ∙ l.ended }
+  pub left-step : (x : Element) → steps s (Some x) t → (j < b) × (x.0 ≡ j) × (t.next ≡ end_at index j) × Left image index b t
+  left-step x h =
+      let m : j < b = omega (arith, e, l.ended, h.2.0) in
+      let k : t.next ≡ end_at index j = rw (← e, ← l.indexed) h.2.2 in
+      (m, h.2.1 ∙ e, k, record { region = rw k (region-next (rw e at l.region) m); indexed = h.0 ∙ l.indexed; ended = h.1 ∙ l.ended })
 
 module _ {image index : List ℕ} {b : ℕ} where
   nothing : (s t : Siblings) → Left image index b s → steps s None t → length (parts_from image index s.next b) ≡ 0
-  nothing s t l h = ap length (parts-over index image s.next b (left-over l t h refl))
+  nothing s t l h = ap length (parts-over index image s.next b (left-over l refl t h))
 
   first : (s : Siblings) (x : Element) (t : Siblings) → Left image index b s → steps s (Some x) t → Left image index b t × (parts_from image index s.next b ≡ part_at image index x.0 ∷ parts_from image index t.next b)
-  first s x t l h = (left-next l t h refl, rw (left-is l t h refl, left-end l t h refl) (region-part l.region (left-before l t h refl)))
+  first s x t l h = let (m, f, k, n) = left-step l refl t x h in (n, rw (f, k) (region-part l.region m))
 
 pub siblings-yield : {image index : List ℕ} {a b : ℕ} {s : Siblings} → Region image index a b → s.index.now ≡ index → s.next ≡ a → s.end ≡ b → YieldsList steps (λ x. part_at image index x.0) s (parts_from image index a b)
 siblings-yield {image} {index} {a} {b} {s} r e f g = rw (← f) (YieldsList-from_shown_while steps (λ x. part_at image index x.0) (λ u. parts_from image index u.next b) (Left image index b) nothing first s (left-first r e f g))
