@@ -19,8 +19,9 @@ use Rattle.tree.specs.Tree.{Part}
 use Rattle.tree.specs.Answer.{found}
 use Rattle.text.specs.Basic.{or_else}
 use Rattle.tree.specs.Class.{Kinds, one_of, is_plus, nth_of, last_of, plus_of, number_of}
-use Rattle.tree.specs.Index.{end_at, part_at, parts_from, Region}
-use Rattle.tree.specs.Siblings.{Forward, GivesSibling}
+use Rattle.tree.specs.Index.{end_at, part_at, parts_from}
+use Rattle.tree.specs.Iter.{Forward, GivesSibling}
+use Rattle.tree.specs.Siblings.{Left}
 use Rattle.tree.proofs.Siblings.{region-part, region-next, parts-over}
 
 -- ---- one step
@@ -33,17 +34,8 @@ forward-less {a = a} f h e = omega (arith, f.past a (omega arith) h)
 
 -- ---- all that they give
 
--- What is left of the siblings of a tree that begin before b.
-pub record Left (image index : List ℕ) (b : ℕ) (s : Siblings) : Type 0 where
-  pub region : Region image index s.next b
-  pub indexed : s.index.now ≡ index
-  pub ended : s.end ≡ b
-
 abbrev pub steps : Siblings → Option Element → Siblings → Type 0
 steps s r t = (t.index.now ≡ s.index.now) × (t.end ≡ s.end) × GivesSibling s.index.now s.next s.end r t.next
-
-pub left-first : {image index : List ℕ} {a b : ℕ} {s : Siblings} → Region image index a b → s.index.now ≡ index → s.next ≡ a → s.end ≡ b → Left image index b s
-left-first r e f g = record { region = rw f r; indexed = e; ended = g }
 
 module _ {image index : List ℕ} {b j : ℕ} {s : Siblings} (l : Left image index b s) (e : s.next ≡ j) (t : Siblings) where
   pub left-over : steps s None t → b ≤ j
@@ -62,8 +54,8 @@ module _ {image index : List ℕ} {b : ℕ} where
   first : (s : Siblings) (x : Element) (t : Siblings) → Left image index b s → steps s (Some x) t → Left image index b t × (parts_from image index s.next b ≡ part_at image index x.0 ∷ parts_from image index t.next b)
   first s x t l h = let (m, f, k, n) = left-step l refl t x h in (n, rw (f, k) (region-part l.region m))
 
-pub siblings-yield : {image index : List ℕ} {a b : ℕ} {s : Siblings} → Region image index a b → s.index.now ≡ index → s.next ≡ a → s.end ≡ b → YieldsList steps (λ x. part_at image index x.0) s (parts_from image index a b)
-siblings-yield {image} {index} {a} {b} {s} r e f g = rw (← f) (YieldsList-from_shown_while steps (λ x. part_at image index x.0) (λ u. parts_from image index u.next b) (Left image index b) nothing first s (left-first r e f g))
+pub siblings-yield : {image index : List ℕ} {a b : ℕ} {s : Siblings} → Left image index b s → s.next ≡ a → YieldsList steps (λ x. part_at image index x.0) s (parts_from image index a b)
+siblings-yield {image} {index} {a} {b} {s} l e = rw (← e) (YieldsList-from_shown_while steps (λ x. part_at image index x.0) (λ u. parts_from image index u.next b) (Left image index b) nothing first s l)
 
 -- ---- what is found
 

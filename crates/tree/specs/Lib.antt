@@ -7,5 +7,6 @@ pub mod CommentForms
 pub mod Answer
 pub mod Image
 pub mod Index
+pub mod Iter
 pub mod Siblings
 pub mod Source

@@ -1,12 +1,10 @@
 -- The siblings of a tree, one at a time.
-use Rattle.std.specs.Prelude.{◌≡◌, List, ℕ, ◌<◌, ◌≤◌, Option, MatchOption}
-use Rattle.numbers.specs.declared.Element.{Element}
-use Rattle.tree.specs.Index.{end_at}
+use Rattle.std.specs.Prelude.{◌≡◌, List, ℕ}
+use Rattle.tree.specs.declared.iter.Siblings.{Siblings}
+use Rattle.tree.specs.Index.{Region}
 
--- Ends lie behind their elements, from a on up to b.
-pub record Forward (index : List ℕ) (a b : ℕ) : Type 0 where
-  pub past : (i : ℕ) → a ≤ i → i < b → i < end_at index i
-
--- the siblings from a on that begin before b give the first of them, if there is one, and c is where the next may begin
-abbrev pub GivesSibling : List ℕ → ℕ → ℕ → Option Element → ℕ → Type 0
-GivesSibling index a b r c = MatchOption r ((b ≤ a) × (c ≡ a)) (λ j. (a < b) × (j.0 ≡ a) × (c ≡ end_at index a))
+-- What is left of the siblings of a tree that begin before b.
+pub record Left (image index : List ℕ) (b : ℕ) (s : Siblings) : Type 0 where
+  pub region : Region image index s.next b
+  pub indexed : s.index.now ≡ index
+  pub ended : s.end ≡ b

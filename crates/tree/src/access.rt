@@ -5,6 +5,7 @@ ghost use Rattle.tree.specs.Answer.{found};
 ghost use Rattle.tree.specs.Class.{is_plus, nth_of, last_of, plus_of, number_of};
 ghost use Rattle.tree.specs.Source.{Source};
 ghost use Rattle.tree.specs.Index.{kind_at, end_at, start_at, text_at, part_at, parts_from, Region};
+ghost use Rattle.tree.specs.Siblings.{Left};
 
 use super::bytes;
 use super::class::{Class, Kinds, is, kinds_of};
@@ -97,9 +98,8 @@ impl<'a> Tree<'a> {
     // The siblings from a on that begin before b.
     pub fn siblings(&self, a: u32, b: u32) -> Siblings<'a>
         requires { Region self.now.image self.now.index a b }
-        ensures index_value { result.index.now ≡ self.now.index }
+        ensures left { Left self.now.image self.now.index b result }
         ensures next_value { result.next ≡ a }
-        ensures end_value { result.end ≡ b }
     {
         Siblings {
             index: self.index,

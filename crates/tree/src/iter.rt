@@ -1,7 +1,7 @@
 // The siblings of a tree, by jumps over what is under each.
 ghost use Rattle.std.specs.Prelude.{◌≡◌, ◌-◌};
 ghost use Rattle.std.specs.Iterator.{at_most};
-ghost use Rattle.tree.specs.Siblings.{Forward, GivesSibling};
+ghost use Rattle.tree.specs.Iter.{Forward, GivesSibling};
 
 use super::access::{END, ENTRY, number_at};
 use numbers::Element;

@@ -6,4 +6,4 @@ use Rattle.children.proofs.Arounds.{foreign-found}
 use Rattle.children.proofs.around.foreign_of.Goals as goal
 
 pub returns : goal.returns
-returns c = found-part _ _ _ (find_from_yields_List (λ x. not (is_kept x.kind)) c.find.new.self _ _ c.find.ensures.ran (siblings-yield c.requires c.siblings.ensures.index_value c.siblings.ensures.next_value c.siblings.ensures.end_value) (λ x b q k. search rules)) refl ∙ foreign-found _
+returns c = found-part _ _ _ (find_from_yields_List (λ x. not (is_kept x.kind)) c.find.new.self _ _ c.find.ensures.ran (siblings-yield c.siblings.ensures.left c.siblings.ensures.next_value) (λ x b q k. search rules)) refl ∙ foreign-found _

@@ -1,10 +1,10 @@
 use Rattle.std.proofs.Common.{◌∙◌, sym}
-use Rattle.tree.proofs.Yielding.{left-first, left-step, left-over}
+use Rattle.tree.proofs.Yielding.{left-step, left-over}
 use Rattle.children.proofs.Arounds.{heading_none, heading-stop, heading-more, heading-all}
 use Rattle.children.proofs.around.leading_end.Goals as goal
 
 pub loop-j-init : goal.loop-j-init
-loop-j-init c = rw c.into_iter-j-iterator.ensures.into_iter_gives (heading_none c.requires, left-first c.requires c.siblings-j-items.ensures.index_value c.siblings-j-items.ensures.next_value c.siblings-j-items.ensures.end_value, c.siblings-j-items.ensures.next_value, c.note_kinds-w.ensures)
+loop-j-init c = rw c.into_iter-j-iterator.ensures.into_iter_gives (heading_none c.requires, c.siblings-j-items.ensures.left, c.siblings-j-items.ensures.next_value, c.note_kinds-w.ensures)
 
 pub returns-then-not-is : goal.returns-then-not-is
 returns-then-not-is c =

@@ -1,6 +1,6 @@
 use Rattle.children.specs.Stretch.{notes}
 use mathlib.Core.Path.{◌≡◌}
-use Rattle.tree.proofs.Yielding.{Left}
+use Rattle.tree.specs.Siblings.{Left}
 use Rattle.children.proofs.Arounds.{Heading}
 use Rattle.children.proofs.around.leading_end.Given as goal
 

@@ -4,4 +4,4 @@ use Rattle.tree.proofs.Yielding.{kindly, siblings-yield, found-part, filter-nth}
 use Rattle.tree.proofs.access.Tree.nth_of.Goals as goal
 
 pub returns : goal.returns
-returns c = found-part _ _ _ (nth_from_yields_List _ c.nth.new.self _ c.nth.ensures.ran (YieldsList-from_filter _ (kindly _) (YieldsList-at c.filter.ensures.source (siblings-yield c.requires c.siblings.ensures.index_value c.siblings.ensures.next_value c.siblings.ensures.end_value)) c.filter.ensures.closure (λ x b q k. search rules))) (filter-nth _ _ _)
+returns c = found-part _ _ _ (nth_from_yields_List _ c.nth.new.self _ c.nth.ensures.ran (YieldsList-from_filter _ (kindly _) (YieldsList-at c.filter.ensures.source (siblings-yield c.siblings.ensures.left c.siblings.ensures.next_value)) c.filter.ensures.closure (λ x b q k. search rules))) (filter-nth _ _ _)

@@ -5,4 +5,4 @@ use Rattle.tree.proofs.Yielding.{siblings-yield, found-part, find-plus}
 use Rattle.tree.proofs.access.Tree.plus_of.Goals as goal
 
 pub returns : goal.returns
-returns c = found-part _ _ _ (find_from_yields_List is_plus c.find.new.self _ _ c.find.ensures.ran (siblings-yield c.requires c.siblings.ensures.index_value c.siblings.ensures.next_value c.siblings.ensures.end_value) (λ x b q k. search rules)) (find-plus _)
+returns c = found-part _ _ _ (find_from_yields_List is_plus c.find.new.self _ _ c.find.ensures.ran (siblings-yield c.siblings.ensures.left c.siblings.ensures.next_value) (λ x b q k. search rules)) (find-plus _)
