@@ -31,7 +31,7 @@ pub fn first_of(tree: &Tree, i: Element, c: Class) -> Option<Element>
 {
     let a = first_in(tree, i);
     let b = tree.end_at(i.0);
-    tree.first_from(kinds_of(c), a, b)
+    tree.nth_of(kinds_of(c), 0, a, b)
 }
 
 // The marks of the parts of element i, or all marks, which are not sure, where these are not asked for.
@@ -42,12 +42,11 @@ pub fn marks_in(tree: &Tree, i: Element, asked: bool) -> u64
     if !asked {
         return ALL_MARKS;
     }
-    let end = tree.end_at(i.0);
+    let a = first_in(tree, i);
+    let b = tree.end_at(i.0);
     let mut m = 0;
-    let mut j = first_in(tree, i);
-    while j < end {
-        m = m | marks_of(tree.kind_at(j));
-        j = tree.end_at(j);
+    for j in tree.siblings(a, b) {
+        m = m | marks_of(tree.kind_at(j.0));
     }
     m
 }
@@ -86,7 +85,7 @@ pub fn wanted_part(tree: &Tree, i: Element, m: u64, w: u32) -> Option<Element>
     }
     let a = first_in(tree, i);
     let b = tree.end_at(i.0);
-    tree.first_from(kinds_wanted(w), a, b)
+    tree.nth_of(kinds_wanted(w), 0, a, b)
 }
 
 // Whether a wanted part, if any, is there, of a node whose parts have the marks m. The first of its kinds is not looked for.

@@ -127,11 +127,10 @@ fn each(planner: &mut Planner, tree: &Tree, i: Element, x: Entry, ended: bool)
     requires word_lt_word_count { x.word < word_count }
     ensures { PlansIn planner tree (each_in tree i.0 x ended (parts_in tree i.0)) }
 {
-    let end = tree.end_at(i.0);
-    let mut j = first_in(tree, i);
-    while j < end {
-        one(planner, tree, i, Element(j), x, ended);
-        j = tree.end_at(j);
+    let a = first_in(tree, i);
+    let b = tree.end_at(i.0);
+    for j in tree.siblings(a, b) {
+        one(planner, tree, i, j, x, ended);
     }
 }
 

@@ -6,8 +6,8 @@ use Rattle.printer.proofs.look.wanted_part.Goals as goal
 pub returns-then-not-is_marked : goal.returns-then-not-is_marked
 returns-then-not-is_marked c = search want-absent
 
-pub first_from-requires : goal.first_from-requires
-first_from-requires c = search at-region
+pub nth_of-requires : goal.nth_of-requires
+nth_of-requires c = search at-region
 
 pub returns : goal.returns
 returns c = search first_found

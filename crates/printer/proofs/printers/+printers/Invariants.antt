@@ -4,6 +4,7 @@ use Rattle.plan.specs.Words.{word_at}
 use Rattle.printer.specs.Rows.{want_at}
 use Rattle.printer.proofs.Walking.{Walking, Valuing}
 use Rattle.items.specs.Item.{condition_test}
+use Rattle.tree.specs.Siblings.{Left}
 use Rattle.printer.specs.Lists.{on_line, behind_it}
 use Rattle.printer.specs.Under.{under}
 use Rattle.printer.specs.Walked.{around, stated}
@@ -75,10 +76,7 @@ abbrev pub decreases-values : goal.decreases-values
 decreases-values l = size l.tree.now.index l.i.0 * 6
 
 abbrev pub invariant-each-loop-j : goal.invariant-each-loop-j
-invariant-each-loop-j l = Eaching l.tree.image l.tree.index l.i.0 (want_at l.x.want).class (word_at l.x.word) l.ended l.initial.planner l.planner l.j
-
-abbrev pub decreases-each-loop-j : goal.decreases-each-loop-j
-decreases-each-loop-j l = l.end - l.j
+invariant-each-loop-j l = (Eaching l.tree.image l.tree.index l.i.0 (want_at l.x.want).class (word_at l.x.word) l.ended l.initial.planner l.planner l.j-iterator.next) × (Left l.tree.image l.tree.index l.b l.j-iterator)
 
 abbrev pub invariant-kids-loop-i : goal.invariant-kids-loop-i
 invariant-kids-loop-i l = Walking l.tree.image l.tree.index l.i.0 l.w l.loose l.b (around (under l.tree.image l.i.0) (on_line l.style (condition_test l.t)) (behind_it l.style (condition_test l.t))) l.initial.s l.initial.planner l.planner l.s
