@@ -29,10 +29,6 @@ module _ (index image : List ℕ) (i : ℕ) {a b : ℕ} (p : a ≡ i + 1) (q : b
   pub nth-found : {w : Kinds} (c : Class) {n m : ℕ} {f : Option ℕ} → w ≡ kinds c → m ≡ n → f ≡ number_of (nth_of w m (parts_from image index a b)) → f ≡ number_of (nth c n (parts_of image index i))
   nth-found c e g h = h ∙ rw (e, g, p, q)
 
-  -- the first part of a class, where no other is wanted
-  pub first_found : {w : Kinds} (c : Class) {n m : ℕ} {f : Option ℕ} → w ≡ kinds c → m ≡ n → m ≡ 0 → f ≡ number_of (nth_of w 0 (parts_from image index a b)) → f ≡ number_of (nth c n (parts_of image index i))
-  first_found c e g z h = nth-found c e (sym z ∙ g) h
-
   -- the last part of a class
   pub last_found : {w : Kinds} (c : Class) {f : Option ℕ} → w ≡ kinds c → f ≡ number_of (last_of w (parts_from image index a b)) → f ≡ number_of (last c (parts_of image index i))
   last_found c e h = h ∙ rw (e, p, q)

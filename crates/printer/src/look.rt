@@ -80,12 +80,7 @@ pub fn wanted_part(tree: &Tree, i: Element, m: u64, w: u32) -> Option<Element>
     if !is_marked(m, w) {
         return None;
     }
-    if place_wanted(w) != 0 {
-        return counted_part(tree, i, w);
-    }
-    let a = first_in(tree, i);
-    let b = tree.end_at(i.0);
-    tree.nth_of(kinds_wanted(w), 0, a, b)
+    counted_part(tree, i, w)
 }
 
 // Whether a wanted part, if any, is there, of a node whose parts have the marks m. The first of its kinds is not looked for.
