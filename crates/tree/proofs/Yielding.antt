@@ -19,9 +19,8 @@ use Rattle.tree.specs.Tree.{Part}
 use Rattle.tree.specs.Answer.{found}
 use Rattle.text.specs.Basic.{or_else}
 use Rattle.tree.specs.Class.{Kinds, one_of, is_plus, nth_of, last_of, plus_of, number_of}
-use Rattle.tree.specs.Index.{end_at, part_at, parts_from}
-use Rattle.tree.specs.Iter.{Forward, GivesSibling}
-use Rattle.tree.specs.Siblings.{Left}
+use Rattle.tree.specs.Index.{end_at, part_at, parts_from, Forward}
+use Rattle.tree.specs.Siblings.{Left, GivesSibling}
 use Rattle.tree.proofs.Siblings.{region-part, region-next, parts-over}
 
 -- ---- one step
@@ -34,28 +33,25 @@ forward-less {a = a} f h e = omega (arith, f.past a (omega arith) h)
 
 -- ---- all that they give
 
-abbrev pub steps : Siblings → Option Element → Siblings → Type 0
-steps s r t = (t.index.now ≡ s.index.now) × (t.end ≡ s.end) × GivesSibling s.index.now s.next s.end r t.next
-
 module _ {image index : List ℕ} {b j : ℕ} {s : Siblings} (l : Left image index b s) (e : s.next ≡ j) (t : Siblings) where
-  pub left-over : steps s None t → b ≤ j
+  pub left-over : GivesSibling s None t → b ≤ j
   left-over h = omega (arith, e, l.ended, h.2.0)
 
-  pub left-step : (x : Element) → steps s (Some x) t → (j < b) × (x.0 ≡ j) × (t.next ≡ end_at index j) × Left image index b t
+  pub left-step : (x : Element) → GivesSibling s (Some x) t → (j < b) × (x.0 ≡ j) × (t.next ≡ end_at index j) × Left image index b t
   left-step x h =
       let m : j < b = omega (arith, e, l.ended, h.2.0) in
       let k : t.next ≡ end_at index j = rw (← e, ← l.indexed) h.2.2 in
       (m, h.2.1 ∙ e, k, record { region = rw k (region-next (rw e at l.region) m); indexed = h.0 ∙ l.indexed; ended = h.1 ∙ l.ended })
 
 module _ {image index : List ℕ} {b : ℕ} where
-  nothing : (s t : Siblings) → Left image index b s → steps s None t → length (parts_from image index s.next b) ≡ 0
+  nothing : (s t : Siblings) → Left image index b s → GivesSibling s None t → length (parts_from image index s.next b) ≡ 0
   nothing s t l h = ap length (parts-over index image s.next b (left-over l refl t h))
 
-  first : (s : Siblings) (x : Element) (t : Siblings) → Left image index b s → steps s (Some x) t → Left image index b t × (parts_from image index s.next b ≡ part_at image index x.0 ∷ parts_from image index t.next b)
+  first : (s : Siblings) (x : Element) (t : Siblings) → Left image index b s → GivesSibling s (Some x) t → Left image index b t × (parts_from image index s.next b ≡ part_at image index x.0 ∷ parts_from image index t.next b)
   first s x t l h = let (m, f, k, n) = left-step l refl t x h in (n, rw (f, k) (region-part l.region m))
 
-pub siblings-yield : {image index : List ℕ} {a b : ℕ} {s : Siblings} → Left image index b s → s.next ≡ a → YieldsList steps (λ x. part_at image index x.0) s (parts_from image index a b)
-siblings-yield {image} {index} {a} {b} {s} l e = rw (← e) (YieldsList-from_shown_while steps (λ x. part_at image index x.0) (λ u. parts_from image index u.next b) (Left image index b) nothing first s l)
+pub siblings-yield : {image index : List ℕ} {a b : ℕ} {s : Siblings} → Left image index b s → s.next ≡ a → YieldsList GivesSibling (λ x. part_at image index x.0) s (parts_from image index a b)
+siblings-yield {image} {index} {a} {b} {s} l e = rw (← e) (YieldsList-from_shown_while GivesSibling (λ x. part_at image index x.0) (λ u. parts_from image index u.next b) (Left image index b) nothing first s l)
 
 -- ---- what is found
 

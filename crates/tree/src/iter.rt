@@ -1,7 +1,7 @@
 // The siblings of a tree, by jumps over what is under each.
-ghost use Rattle.std.specs.Prelude.{◌≡◌, ◌-◌};
+ghost use Rattle.std.specs.Prelude.{◌-◌};
 ghost use Rattle.std.specs.Iterator.{at_most};
-ghost use Rattle.tree.specs.Iter.{Forward, GivesSibling};
+ghost use Rattle.tree.specs.Index.{Forward};
 
 use super::access::{END, ENTRY, number_at};
 use numbers::Element;
@@ -16,9 +16,11 @@ pub struct Siblings<'a> {
 }
 
 impl<'a> Iterator for Siblings<'a> {
+    ghost use Rattle.tree.specs.Siblings.{GivesSibling};
+
     type Item = Element;
 
-    ghost next_gives = { λ s r t. (t.index.now ≡ s.index.now) × (t.end ≡ s.end) × GivesSibling s.index.now s.next s.end r t.next };
+    ghost next_gives = { GivesSibling };
 
     ghost remaining = { λ s. at_most (s.end - s.next) };
 
