@@ -1,12 +1,12 @@
--- The bounds of a reading, and the loops of `foreign_of` and `leading_end`.
+-- The bounds of a reading, and what `foreign_of` finds and the loop of `leading_end` passes.
 use mathlib.Core.Path.{◌≡◌, refl, ◌∙◌, sym}
 use mathlib.Core.Bool.{Bool, true, false, cond, not, ◌&&◌, ◌||◌}
 use mathlib.Core.Option.{Option, none, some}
 use mathlib.Core.List.{List, [], ◌∷◌, ◌++◌, append-nil, append_assoc}
-use Prim.Native.Nat.{ℕ, ◌-◌, ◌<◌, ◌≤◌}
+use Prim.Native.Nat.{ℕ, ◌<◌, ◌≤◌}
 use native.Mathlib.Omega.{arith}
 use lib.Dec.{ltb}
-use borrow.Author.Tests.{ltb-true, ltb-false, not-true, not-false}
+use borrow.Author.Tests.{ltb-true, ltb-false}
 use Rattle.text.specs.Basic.{present}
 use Rattle.tree.specs.Tree.{Part}
 use Rattle.tree.specs.declared.class.Class.{Class}
@@ -17,7 +17,9 @@ use Rattle.numbers.specs.declared.Element.{Element}
 use Rattle.tree.specs.Class.{is, of_kind, one_of, number_of, all_of}
 use Rattle.tree.specs.Answer.{found}
 use Rattle.tree.specs.Index.{Region, kind_at, part_at, parts_from, end_at}
-use Rattle.tree.proofs.Siblings.{region-part, region-past, region-next, parts-over}
+use Rattle.std.specs.List.{find}
+use Rattle.tree.proofs.Yielding.{same}
+use Rattle.tree.proofs.Siblings.{region-part, parts-over}
 use Rattle.children.specs.declared.around.Notes.{Notes}
 use Rattle.children.specs.Reading.{up_to, behind_part, up_to_part, between, foreign_at, with_trivia, strict, leading, trivia_before, trivia_after}
 use Rattle.children.specs.Stretch.{notes, Jumps, here, Stretch}
@@ -134,32 +136,14 @@ kept_is k e p q = rw (p, e, q)
 pub strict-beside : {index image : List ℕ} {a b : ℕ} {f : std.Option Element} → Region image index a b → found f ≡ foreign_in (parts_from image index a b) → Beside image index (strict (parts_from image index a b)) a b (record { from = a; to = b; foreign = f })
 strict-beside r e = record { begins = refl; ends = refl; region = r; read = strict_is _ ∙ rw e }
 
--- The first foreign element of all is that of those that are left.
-pub record Seeking (index image : List ℕ) (a b j : ℕ) : Type 0 where
-  pub region : Region image index j b
-  pub rest : foreign_in (parts_from image index j b) ≡ foreign_in (parts_from image index a b)
-
-pub seeking_none : {index image : List ℕ} {a b : ℕ} → Region image index a b → Seeking index image a b a
-seeking_none r = record { region = r; rest = refl }
-
-module _ {index image : List ℕ} {a b j : ℕ} (K : Seeking index image a b j) where
-  pub seeking-all : b ≤ j → none ≡ foreign_in (parts_from image index a b)
-  unfolding foreign_in
-  seeking-all h = rw (parts-over index image j b h) at K.rest
-
-  module _ (lt : j < b) {k : ℕ} {t : Bool} (p : k ≡ kind_at index j) (q : t ≡ is_kept k) where
-    step : cond t (foreign_in (parts_from image index (end_at index j) b)) (some j) ≡ foreign_in (parts_from image index a b)
-    unfolding foreign_in
-    step = rw (q, p) (rw (region-part K.region lt) at K.rest)
-
-    pub seeking-found : not t ≡ true → some j ≡ foreign_in (parts_from image index a b)
-    seeking-found h = rw (not-true t h) at step
-
-    pub seeking-more : not t ≡ false → {next : ℕ} → next ≡ end_at index j → Seeking index image a b next
-    seeking-more h e = rw e (record { region = region-next K.region lt; rest = rw (not-false t h) at step })
-
-    pub seeking-less : {next : ℕ} → next ≡ end_at index j → b - next < b - j
-    seeking-less e = omega (arith, region-past K.region lt)
+pub foreign-found : (xs : List Part) → number_of (same (find (λ x. not (is_kept x.kind)) xs)) ≡ foreign_in xs
+unfolding foreign_in
+foreign-found [] = refl
+foreign-found (x ∷ xs) = go (is_kept x.kind) (foreign-found xs)
+  where
+    go : (t : Bool) → number_of (same (find (λ x. not (is_kept x.kind)) xs)) ≡ foreign_in xs → number_of (same (cond (not t) (Some x) (find (λ x. not (is_kept x.kind)) xs))) ≡ cond t (foreign_in xs) (some x.number)
+    go true h = h
+    go false h = refl
 
 -- ---- what comes first
 
@@ -194,27 +178,24 @@ module _ {index image : List ℕ} {a b j : ℕ} (K : Heading index image a b j) 
     unfolding leading_to
     to_is = rw (region-part K.region lt, note-kinds (part_at image index j), q, z, p)
 
-    pub heading-stop : not t ≡ true → Led image index a b j
-    heading-stop h = led (next-is ∙ rw (not-true t h)) (to_is ∙ rw (not-true t h))
+    pub heading-stop : t ≡ false → Led image index a b j
+    heading-stop h = led (next-is ∙ rw h) (to_is ∙ rw h)
 
     noted : t ≡ true → one_of notes (kind_at index j) ≡ true
     noted h = rw (← z, ← p, ← q) h
 
-    pub heading-more : not t ≡ false → {next : ℕ} → next ≡ end_at index j → Heading index image a b next
+    pub heading-more : t ≡ true → {next : ℕ} → next ≡ end_at index j → Heading index image a b next
     heading-more h e = rw e (record {
       region = record { n = K.region.n; table = K.region.table; begins = K.region.table.inside j (omega (arith, K.region.ends)); ends = K.region.ends };
       done = jumps-next K.region.table K.done (omega (arith, K.region.ends));
       rest = rw (
         parts_more K.region.table K.done (omega (arith, K.region.ends)),
         all_more notes (parts_from image index a j) (part_at image index j),
-        noted (not-false t h),
+        noted h,
         append_assoc,
-      ) (K.rest ∙ rw (next-is, not-false t h));
-      ends = K.ends ∙ to_is ∙ rw (not-false t h);
+      ) (K.rest ∙ rw (next-is, h));
+      ends = K.ends ∙ to_is ∙ rw h;
     })
-
-    pub heading-less : {next : ℕ} → next ≡ end_at index j → b - next < b - j
-    heading-less e = omega (arith, region-past K.region lt)
 
 -- ---- trivia_before and trivia_after
 

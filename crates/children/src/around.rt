@@ -33,14 +33,7 @@ fn foreign_of(tree: &Tree, a: u32, b: u32) -> Option<Element>
     requires { Region tree.now.image tree.now.index a b }
     ensures { found result ≡ foreign_in (parts_from tree.now.image tree.now.index a b) }
 {
-    let mut j = a;
-    while j < b {
-        if !is_kept(tree.kind_at(j)) {
-            return Some(Element(j));
-        }
-        j = tree.end_at(j);
-    }
-    None
+    tree.siblings(a, b).find(|j| !is_kept(tree.kind_at(j.0)))
 }
 
 // The trivia and custom errors from a on that begin before b, which is a strict reading.
@@ -62,14 +55,14 @@ fn leading_end(tree: &Tree, a: u32, b: u32) -> u32
     ensures { Led tree.now.image tree.now.index a b result }
 {
     let w = note_kinds();
-    let mut j = a;
-    while j < b {
-        if !is(w, tree.kind_at(j)) {
-            return j;
+    let mut end = a;
+    for j in tree.siblings(a, b) {
+        if !is(w, tree.kind_at(j.0)) {
+            return end;
         }
-        j = tree.end_at(j);
+        end = tree.end_at(j.0);
     }
-    j
+    end
 }
 
 // The trivia before an expression among the elements from a on that begin before b; without one, the trivia that comes first.

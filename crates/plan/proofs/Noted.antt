@@ -1,5 +1,5 @@
 -- The loop of `plan_all`, the lists that a gap's numbers mean, and plannings that a test picks.
-use Rattle.std.specs.Prelude.{◌≡◌, ℕ, ◌-◌, ◌<◌, ◌≤◌, Bool, true, false, cond, not, ◌||◌, eqb, List, [], ◌∷◌, ◌++◌}
+use Rattle.std.specs.Prelude.{◌≡◌, ℕ, ◌<◌, ◌≤◌, Bool, true, false, cond, not, ◌||◌, eqb, List, [], ◌∷◌, ◌++◌}
 use mathlib.Core.Path.{refl, sym, ◌∙◌}
 use mathlib.Core.Bool.{false≢true}
 use native.Mathlib.Omega.{arith}
@@ -13,7 +13,7 @@ use Rattle.tree.specs.declared.class.Class.TheVariants as Class
 use Rattle.tree.specs.declared.class.Kinds.{Kinds}
 use Rattle.tree.specs.Class.{kinds, one_of, all_of}
 use Rattle.tree.specs.Index.{Region, kind_at, part_at, parts_from, end_at}
-use Rattle.tree.proofs.Siblings.{region-part, region-past, region-next, parts-over}
+use Rattle.tree.proofs.Siblings.{region-part, region-next, parts-over}
 use Rattle.children.specs.declared.gap.Span.{Span}
 use Rattle.children.specs.Stretch.{inline_in, waiting_in, notes as note_kinds}
 use Rattle.children.specs.Tally.{speaks}
@@ -89,9 +89,6 @@ module _ {image index : List ℕ} {w : Kinds} {from b : ℕ} {loc : Location} {o
   noting-all h = K.rest (rw (parts-over index image j b h) idle)
 
   module _ (lt : j < b) where
-    pub noting-less : {next : ℕ} → next ≡ end_at index j → b - next < b - j
-    noting-less e = omega (arith, region-past K.region lt)
-
     pub noting-few : j < operand_limit
     noting-few = omega (arith, K.region.ends, K.region.table.few)
 

@@ -33,10 +33,8 @@ fn plan_all(planner: &mut Planner, tree: &Tree, w: Kinds, a: u32, b: u32, loc: C
     requires { Region tree.now.image tree.now.index a b }
     ensures { PlansIn planner tree (comments (all_of w (parts_from tree.now.image tree.now.index a b)) (place loc)) }
 {
-    let mut j = a;
-    while j < b {
-        plan_one(planner, tree, w, Element(j), loc);
-        j = tree.end_at(j);
+    for j in tree.siblings(a, b) {
+        plan_one(planner, tree, w, j, loc);
     }
 }
 

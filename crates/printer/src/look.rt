@@ -45,7 +45,7 @@ impl<'a> Node<'a> {
     {
         let a = self.start();
         let b = self.end();
-        self.tree.first_from(kinds_of(c), a, b)
+        self.tree.nth_of(kinds_of(c), 0, a, b)
     }
 
     // The marks of its parts, or all marks, which are not sure, where these are not asked for.
@@ -55,12 +55,11 @@ impl<'a> Node<'a> {
         if !asked {
             return ALL_MARKS;
         }
-        let end = self.end();
+        let a = self.start();
+        let b = self.end();
         let mut m = 0;
-        let mut j = self.start();
-        while j < end {
-            m = m | marks_of(self.tree.kind_at(j));
-            j = self.tree.end_at(j);
+        for j in self.tree.siblings(a, b) {
+            m = m | marks_of(self.tree.kind_at(j.0));
         }
         m
     }
@@ -84,12 +83,7 @@ impl<'a> Node<'a> {
         if !is_marked(m, w) {
             return None;
         }
-        if place_wanted(w) != 0 {
-            return self.counted_part(w);
-        }
-        let a = self.start();
-        let b = self.end();
-        self.tree.first_from(kinds_wanted(w), a, b)
+        self.counted_part(w)
     }
 
     // Whether a wanted part, if any, is there, of a node whose parts have the marks m. The first of its kinds is not looked for.

@@ -124,11 +124,10 @@ fn each(planner: &mut Planner, n: Node, x: Entry, ended: bool)
     requires word { x.word < word_count }
     ensures { PlansOf planner n.entry (each_in n.entry x ended (parts_in n.entry)) }
 {
-    let end = n.end();
-    let mut j = n.start();
-    while j < end {
-        one(planner, n, Element(j), x, ended);
-        j = n.tree.end_at(j);
+    let a = n.start();
+    let b = n.end();
+    for j in n.tree.siblings(a, b) {
+        one(planner, n, j, x, ended);
     }
 }
 

@@ -10,7 +10,6 @@ pub mod Ends
 mod Filling
 pub mod FirstWhere
 mod Lengths
-mod Looking
 mod Numbers
 pub mod Options
 mod Parts
@@ -21,3 +20,4 @@ mod Sums
 mod Tries
 mod Verdict
 pub mod Walk
+pub mod Yielding

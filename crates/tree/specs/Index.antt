@@ -103,6 +103,10 @@ pub record Region (image index : List ℕ) (a b : ℕ) : Type 0 where
   pub begins : a ≤ n
   pub ends : b ≤ n
 
+-- Ends lie behind their elements, from a on up to b.
+pub record Forward (index : List ℕ) (a b : ℕ) : Type 0 where
+  pub past : (i : ℕ) → a ≤ i → i < b → i < end_at index i
+
 -- j is a child of i, or the end of i's children
 pub record Child (image : List ℕ) (i j : ℕ) : Type 0 where
   pub node : i < count_n image

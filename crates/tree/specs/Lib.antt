@@ -7,4 +7,5 @@ pub mod CommentForms
 pub mod Answer
 pub mod Image
 pub mod Index
+pub mod Siblings
 pub mod Source

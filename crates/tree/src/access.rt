@@ -1,14 +1,15 @@
 // Reading the index: an element's numbers and text, and the parts of a region by their kinds.
-ghost use Rattle.std.specs.Prelude.{◌≡◌, cond, ◌-◌, get_or};
-ghost use Rattle.std.proofs.Math.Option.{some};
+ghost use Rattle.std.specs.Prelude.{◌≡◌, get_or};
 ghost use Rattle.text.specs.Basic.{ascii, same_bytes};
 ghost use Rattle.tree.specs.Answer.{found};
 ghost use Rattle.tree.specs.Class.{is_plus, nth_of, last_of, plus_of, number_of};
 ghost use Rattle.tree.specs.Source.{Source};
 ghost use Rattle.tree.specs.Index.{kind_at, end_at, start_at, text_at, part_at, parts_from, Region};
+ghost use Rattle.tree.specs.Siblings.{Left};
 
 use super::bytes;
 use super::class::{Class, Kinds, is, kinds_of};
+use super::iter::Siblings;
 use numbers::Element;
 use std::marker::Model;
 
@@ -20,7 +21,7 @@ pub const END: usize = 1;
 pub const START: usize = 2;
 
 // The number at a place, 0 past the end.
-fn number_at(index: &[u32], i: usize) -> u32
+pub(crate) fn number_at(index: &[u32], i: usize) -> u32
     ensures { result ≡ get_or index.now i 0 }
 {
     index.get(i).copied().unwrap_or(0)
@@ -31,20 +32,6 @@ fn is_plus_sign(s: &[u8]) -> bool
     ensures { result ≡ same_bytes s.now (ascii "+") }
 {
     (s.len() == 1) && (s[0] == b'+')
-}
-
-// How many are still to be passed, after one that counts or not.
-fn count_down(left: u32, counts: bool) -> u32
-    ensures { result ≡ cond counts (left - 1) left }
-{
-    if counts { left.saturating_sub(1) } else { left }
-}
-
-// The element last found.
-fn later(last: Option<Element>, counts: bool, j: u32) -> Option<Element>
-    ensures { found result ≡ cond counts (some j) (found last) }
-{
-    if counts { Some(Element(j)) } else { last }
 }
 
 // A tree: its image, and the index of its elements.
@@ -108,19 +95,17 @@ impl<'a> Tree<'a> {
         operator & is_plus_sign(s)
     }
 
-    // The first part of these kinds of the siblings from a on that begin before b.
-    pub fn first_from(&self, w: Kinds, a: u32, b: u32) -> Option<Element>
+    // The siblings from a on that begin before b.
+    pub fn siblings(&self, a: u32, b: u32) -> Siblings<'a>
         requires { Region self.now.image self.now.index a b }
-        ensures { found result ≡ number_of (nth_of w 0 (parts_from self.now.image self.now.index a b)) }
+        ensures left { Left self.now.image self.now.index b result }
+        ensures starts { result.next ≡ a }
     {
-        let mut j = a;
-        while j < b {
-            if is(w, self.kind_at(j)) {
-                return Some(Element(j));
-            }
-            j = self.end_at(j);
+        Siblings {
+            index: self.index,
+            next: a,
+            end: b,
         }
-        None
     }
 
     // The n-th part of these kinds, from 0, of the siblings from a on that begin before b.
@@ -128,17 +113,9 @@ impl<'a> Tree<'a> {
         requires { Region self.now.image self.now.index a b }
         ensures { found result ≡ number_of (nth_of w n (parts_from self.now.image self.now.index a b)) }
     {
-        let mut left = n;
-        let mut j = a;
-        while j < b {
-            let counts = is(w, self.kind_at(j));
-            if counts & (left == 0) {
-                return Some(Element(j));
-            }
-            left = count_down(left, counts);
-            j = self.end_at(j);
-        }
-        None
+        self.siblings(a, b)
+            .filter(|j| is(w, self.kind_at(j.0)))
+            .nth(n as usize)
     }
 
     // The last part of these kinds of the siblings from a on that begin before b.
@@ -146,13 +123,9 @@ impl<'a> Tree<'a> {
         requires { Region self.now.image self.now.index a b }
         ensures { found result ≡ number_of (last_of w (parts_from self.now.image self.now.index a b)) }
     {
-        let mut last = None;
-        let mut j = a;
-        while j < b {
-            last = later(last, is(w, self.kind_at(j)), j);
-            j = self.end_at(j);
-        }
-        last
+        self.siblings(a, b)
+            .filter(|j| is(w, self.kind_at(j.0)))
+            .last()
     }
 
     // The first `+` of the siblings from a on that begin before b.
@@ -160,13 +133,6 @@ impl<'a> Tree<'a> {
         requires { Region self.now.image self.now.index a b }
         ensures { found result ≡ number_of (plus_of (parts_from self.now.image self.now.index a b)) }
     {
-        let mut j = a;
-        while j < b {
-            if self.is_plus(j) {
-                return Some(Element(j));
-            }
-            j = self.end_at(j);
-        }
-        None
+        self.siblings(a, b).find(|j| self.is_plus(j.0))
     }
 }

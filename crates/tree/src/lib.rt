@@ -6,6 +6,7 @@ mod bytes;
 pub mod class;
 mod clean;
 pub mod index;
+pub mod iter;
 mod read;
 mod reader;
 mod refuse;

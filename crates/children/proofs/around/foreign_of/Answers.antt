@@ -1,17 +1,9 @@
-use Rattle.children.proofs.Arounds.{seeking_none, seeking-found, seeking-more, seeking-less, seeking-all}
+use Rattle.std.proofs.Common.{rules, ◌∙◌, refl, not}
+use Rattle.std.proofs.lemmas.Iterator.Search.{find_from_yields_List}
+use Rattle.tree.proofs.Yielding.{siblings-yield, found-part}
+use Rattle.children.specs.Between.{is_kept}
+use Rattle.children.proofs.Arounds.{foreign-found}
 use Rattle.children.proofs.around.foreign_of.Goals as goal
 
-pub loop-j-init : goal.loop-j-init
-loop-j-init c = search seeking_none
-
-pub returns-then-not-is_kept : goal.returns-then-not-is_kept
-returns-then-not-is_kept c = search seeking-found
-
-pub loop-j-smaller : goal.loop-j-smaller
-loop-j-smaller c = search seeking-less
-
-pub loop-j-preserved : goal.loop-j-preserved
-loop-j-preserved c = search seeking-more
-
 pub returns : goal.returns
-returns c = search seeking-all
+returns c = found-part _ _ _ (find_from_yields_List (λ x. not (is_kept x.kind)) c.find.new.self _ _ c.find.ensures.ran (siblings-yield c.siblings.ensures.left c.siblings.ensures.starts) (λ x b q k. search rules)) refl ∙ foreign-found _

@@ -5,12 +5,13 @@ use Rattle.plan.proofs.Laws.{by, ◌▸◌, idle}
 use Rattle.printer.proofs.Walking.{survey-outlined, survey-foreign, outlined-whole, outlined-count, after-outlined, after-foreign, spans_as, walks-region, walks_less, walking-none, walking-more, walking-all_lem, unasked-lies, unasked-around, walking-first, stating-all, statements-over, statements-foreign, valuing-none, valuing-more, valuing-all, values-over, values-foreign}
 use Rattle.printer.proofs.Listing.{args-foreign, local-foreign, specs-foreign, around_is, comp-foreign, list-foreign}
 use Rattle.tree.proofs.Options.{lacking}
+use Rattle.tree.proofs.Yielding.{left-step, left-over}
 use Rattle.printer.proofs.Printed.{enclosed-reading, left_paren, right_paren, plans-args, plans-binds, left_brace, right_brace, spec_reading, plans-comp, comp-lacks, member_reading, plans-expr, list-reading, plans-empty, plans-list}
 use Rattle.printer.proofs.Readings.{within, walks-first, items-walk, walks-kid}
 use Rattle.printer.specs.Print.{local_of, element}
 use Rattle.items.specs.declared.Condition.TheVariants.{Always}
-use Rattle.printer.proofs.Rowing.{kid_falls, eaching-none, eaching-kid, eaching-less, eaching-more, eaching-all, class-tested, each-other, each-one, found_kid, number-found, number-none, piece-unasked, piece-asked_lem, piece-text, piece-signal, piece-each, piece-part, piece-plus, rowing-none, rowing_more, rowing-in, rowing-all}
-use Rattle.printer.proofs.Under.{kid_at, kid-print}
+use Rattle.printer.proofs.Rowing.{kid_falls, eaching-none, eaching-kid, eaching-more, eaching-all, class-tested, each-other, each-one, found_kid, number-found, number-none, piece-unasked, piece-asked_lem, piece-text, piece-signal, piece-each, piece-part, piece-plus, rowing-none, rowing_more, rowing-in, rowing-all}
+use Rattle.printer.proofs.Under.{at-region, kid_at, kid-print}
 use Rattle.printer.proofs.Looking.{first-has, ends-has, bounded_as, none_has, want-has, plus-part}
 use Rattle.plan.specs.Words.{words}
 use Rattle.printer.specs.Rows.{tested}
@@ -128,20 +129,26 @@ comp-returns t c =
 
 -- ---- each
 
+pub each-siblings-j-items-requires : goal.each-siblings-j-items-requires
+each-siblings-j-items-requires t c = at-region c.args.n.at c.start-a.ensures c.end-b.ensures
+
 pub each-loop-j-init : goal.each-loop-j-init
-each-loop-j-init t c = search eaching-none
+each-loop-j-init t c = rw c.into_iter-j-iterator.ensures.into_iter_gives (rw c.siblings-j-items.ensures.starts (eaching-none _ _ _ c.args.n.at c.start-a.ensures), c.siblings-j-items.ensures.left)
 
 pub each-one-requires : goal.each-one-requires
-each-one-requires t c = (omega (arith, c.decreases), (eaching-kid c.loop-j.invariant c.end-end.ensures c.loop-j-test.true, (c.requires.want, c.requires.word)))
-
-pub each-loop-j-smaller : goal.each-loop-j-smaller
-each-loop-j-smaller t c = search eaching-less
+each-one-requires t c =
+    let (K, L) = c.loop-j.invariant in
+    let (m, f, g, n) = left-step L refl c.next.new.self _ c.in-Some.ensures.steps in
+    (omega (arith, c.decreases), (rw f (eaching-kid K c.end-b.ensures m), (c.requires.want, c.requires.word)))
 
 pub each-loop-j-preserved : goal.each-loop-j-preserved
-each-loop-j-preserved t c = search eaching-more
+each-loop-j-preserved t c =
+    let (K, L) = c.loop-j.invariant in
+    let (m, f, g, n) = left-step L refl c.next.new.self _ c.in-Some.ensures.steps in
+    (eaching-more K c.end-b.ensures m g (rw f at c.one.ensures), n)
 
 pub each-returns : goal.each-returns
-each-returns t c = eaching-all c.loop-j.invariant c.end-end.ensures c.loop-j-test.false
+each-returns t c = let (K, L) = c.loop-j.invariant in eaching-all K c.end-b.ensures (left-over L refl c.next.new.self c.in-None.ensures.steps)
 
 -- ---- expr
 

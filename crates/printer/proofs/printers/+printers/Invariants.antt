@@ -4,6 +4,7 @@ use Rattle.plan.specs.Words.{word_at}
 use Rattle.printer.specs.Rows.{want_at}
 use Rattle.printer.proofs.Walking.{Walking, Valuing}
 use Rattle.items.specs.Item.{condition_test}
+use Rattle.tree.specs.Siblings.{Left}
 use Rattle.printer.specs.Lists.{on_line, behind_it}
 use Rattle.printer.specs.Under.{under}
 use Rattle.printer.specs.Walked.{around, stated}
@@ -75,10 +76,7 @@ abbrev pub decreases-values : goal.decreases-values
 decreases-values l = size l.n.tree.now.index l.n.element.0 * 6
 
 abbrev pub invariant-each-loop-j : goal.invariant-each-loop-j
-invariant-each-loop-j l = Eaching l.n.tree.now.image l.n.tree.now.index l.n.element.0 (want_at l.x.want).class (word_at l.x.word) l.ended l.initial.planner l.planner l.j
-
-abbrev pub decreases-each-loop-j : goal.decreases-each-loop-j
-decreases-each-loop-j l = l.end - l.j
+invariant-each-loop-j l = (Eaching l.n.tree.now.image l.n.tree.now.index l.n.element.0 (want_at l.x.want).class (word_at l.x.word) l.ended l.initial.planner l.planner l.j-iterator.next) × (Left l.n.tree.now.image l.n.tree.now.index l.b l.j-iterator)
 
 abbrev pub invariant-kids-loop-z : goal.invariant-kids-loop-z
 invariant-kids-loop-z l = Walking l.n.tree.now.image l.n.tree.now.index l.n.element.0 l.w l.z.loose l.z.to (around (under l.n.tree.now.image l.n.element.0) (on_line l.style (condition_test l.t)) (behind_it l.style (condition_test l.t))) l.initial.s l.initial.planner l.planner l.s

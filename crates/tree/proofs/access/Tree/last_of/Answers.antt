@@ -1,8 +1,7 @@
-use Rattle.tree.proofs.Looking.{looking-on, looking-all, last_on, last-over}
+use Rattle.std.proofs.Common.{rules}
+use Rattle.std.proofs.lemmas.Iterator.Consumers.{YieldsList-at, YieldsList-from_filter}
+use Rattle.tree.proofs.Yielding.{kindly, siblings-yield, found-part, filter-last, last-yielded}
 use Rattle.tree.proofs.access.Tree.last_of.Goals as goal
 
-pub loop-j-preserved : goal.loop-j-preserved
-loop-j-preserved c = looking-on c.loop-j.invariant _ c.loop-j-test.true c.end_at-j.ensures (last_on _ _ c.kind_at.ensures c.is.ensures _ _ c.later-last.ensures)
-
 pub returns : goal.returns
-returns c = looking-all c.loop-j.invariant _ c.loop-j-test.false (last-over _ _)
+returns c = found-part _ _ _ (last-yielded _ c.last.ensures.ran (YieldsList-from_filter _ (kindly _) (YieldsList-at c.filter.ensures.source (siblings-yield c.siblings.ensures.left c.siblings.ensures.starts)) c.filter.ensures.closure (λ x b q k. search rules))) (filter-last _ _)
