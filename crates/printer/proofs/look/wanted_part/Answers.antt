@@ -1,4 +1,3 @@
-use Rattle.printer.proofs.Looking.{first_found}
 use Rattle.printer.proofs.Marking.{want-absent}
 use Rattle.printer.proofs.Under.{at-region}
 use Rattle.printer.proofs.look.wanted_part.Goals as goal
@@ -8,6 +7,3 @@ returns-then-not-is_marked c = search want-absent
 
 pub first_from-requires : goal.first_from-requires
 first_from-requires c = search at-region
-
-pub returns : goal.returns
-returns c = search first_found
