@@ -28,17 +28,17 @@ abbrev pub marks_all : ℕ → ℕ → Bool
 marks_all k m = all_below want_count (λ w. agree (marked m w) (of_kind (want_at w).class k))
 
 -- the marks of a kind in the table
-pub marks-coded : (k : ℕ) {q m : ℕ} → q ≡ k → marks_all k m ≡ true → MarksOf q m
-marks-coded k {q} {m} e t = rw e (record { of-class = same-below want_count (marked m) (λ w. of_kind (want_at w).class k) t })
+pub marks_coded : (k : ℕ) {q m : ℕ} → q ≡ k → marks_all k m ≡ true → MarksOf q m
+marks_coded k {q} {m} e t = rw e (record { of-class = same-below want_count (marked m) (λ w. of_kind (want_at w).class k) t })
 
 -- no mark is set in 0
 none-marked : (w : ℕ) → w < want_count → marked 0 w ≡ false
 none-marked w h = not-true (marked 0 w) (below want_count (λ w. not (marked 0 w)) refl w h)
 
 -- a kind behind those of all classes
-pub marks-beyond : (n : ℕ) {k : ℕ} → n ≤ k → all_below want_count (λ w. ltb (kinds (want_at w).class).hi n) ≡ true → MarksOf k 0
+pub marks_beyond : (n : ℕ) {k : ℕ} → n ≤ k → all_below want_count (λ w. ltb (kinds (want_at w).class).hi n) ≡ true → MarksOf k 0
 unfolding one_of
-marks-beyond n {k} h t = record { of-class = λ w v. none-marked w v ∙ sym (go w (ltb-true _ n (below want_count (λ w. ltb (kinds (want_at w).class).hi n) t w v))) }
+marks_beyond n {k} h t = record { of-class = λ w v. none-marked w v ∙ sym (go w (ltb-true _ n (below want_count (λ w. ltb (kinds (want_at w).class).hi n) t w v))) }
   where
     go : (w : ℕ) → (kinds (want_at w).class).hi < n → of_kind (want_at w).class k ≡ false
     go w v = rw (lt-leb k (kinds (want_at w).class).hi (omega arith)) (no (leb (kinds (want_at w).class).lo k))

@@ -15,10 +15,6 @@ use Rattle.printer.specs.Rows.{want_count, piece_count, want_at, piece_at, piece
 
 -- ---- wanted parts
 
--- the number of a wanted part in the table
-pub want-coded : (k : ℕ) {w n : ℕ} → w ≡ k → kinds_in n ≡ kinds (want_at k).class → bits_at n 24 ≡ (want_at k).place → WantOf w n
-want-coded k e f g = rw e (record { class-kinds = f; which = g })
-
 -- three numbers are its kinds
 pub want-kinds : {w n a b d : ℕ} → WantOf w n → a ≡ bits_at n 0 → b ≡ bits_at n 8 → d ≡ bits_at n 16 → record { lo = a; hi = b; but = d } ≡ kinds (want_at w).class
 want-kinds h e f g = rw (e, f, g) h.class-kinds
