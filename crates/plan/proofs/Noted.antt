@@ -72,9 +72,6 @@ pub record Noting (image index : List ℕ) (w : Kinds) (from b : ℕ) (loc : Loc
   pub region : Region image index j b
   pub rest : {z : Planner} → Plans (source_at image index) (comments (all_of w (parts_from image index j b)) loc) a z → Plans (source_at image index) (comments (all_of w (parts_from image index from b)) loc) o z
 
-pub noting_none : {image index : List ℕ} {from b : ℕ} (w : Kinds) (loc : Location) (o : Planner) → Region image index from b → Noting image index w from b loc o o from
-noting_none w loc o r = record { region = r; rest = λ h. h }
-
 all_first : (w : Kinds) (x : Part) (xs : List Part) → all_of w (x ∷ xs) ≡ all_of w (x ∷ []) ++ all_of w xs
 unfolding all_of
 all_first w x xs = go (one_of w x.kind)
