@@ -139,9 +139,6 @@ pub record Seeking (index image : List ℕ) (a b j : ℕ) : Type 0 where
   pub region : Region image index j b
   pub rest : foreign_in (parts_from image index j b) ≡ foreign_in (parts_from image index a b)
 
-pub seeking_none : {index image : List ℕ} {a b : ℕ} → Region image index a b → Seeking index image a b a
-seeking_none r = record { region = r; rest = refl }
-
 module _ {index image : List ℕ} {a b j : ℕ} (K : Seeking index image a b j) where
   pub seeking-all : b ≤ j → none ≡ foreign_in (parts_from image index a b)
   unfolding foreign_in

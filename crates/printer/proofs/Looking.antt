@@ -1,5 +1,5 @@
 -- The laws of looking parts up: what was found is the part that the definition names, and one of the node's.
-use Rattle.std.specs.Prelude.{◌≡◌, ℕ, ◌+◌, Bool, true, false, cond, not, ◌&&◌, ◌||◌, eqb, List, [], ◌∷◌, ◌++◌}
+use Rattle.std.specs.Prelude.{◌≡◌, ℕ, ◌+◌, Bool, true, false, cond, not, ◌&&◌, ◌||◌, List, [], ◌∷◌, ◌++◌}
 use Rattle.std.specs.Prelude as R
 use mathlib.Core.Path.{refl, sym, ◌∙◌}
 use mathlib.Core.Bool.{false≢true}
@@ -9,7 +9,7 @@ use Rattle.text.specs.Basic.{any, is_nil, present, or_else}
 use Rattle.tree.specs.Tree.{Part}
 use Rattle.tree.specs.declared.class.Class.{Class}
 use Rattle.tree.specs.declared.class.Kinds.{Kinds}
-use Rattle.tree.specs.Class.{kinds, nth_of, nth, last_of, last, plus_of, is_plus, number_of}
+use Rattle.tree.specs.Class.{kinds, nth, last_of, last, plus_of, is_plus, number_of}
 use Rattle.tree.specs.Index.{end_at, parts_from}
 use Rattle.children.specs.declared.between.Bounds.{Bounds}
 use Rattle.children.specs.Between.{has, Ends, Bounded}
@@ -25,29 +25,9 @@ use Rattle.printer.proofs.Under.{at-region}
 -- ---- what was found
 
 module _ (index image : List ℕ) (i : ℕ) {a b : ℕ} (p : a ≡ i + 1) (q : b ≡ end_at index i) where
-  -- the n-th part of a class
-  pub nth-found : {w : Kinds} (c : Class) {n m : ℕ} {f : Option ℕ} → w ≡ kinds c → m ≡ n → f ≡ number_of (nth_of w m (parts_from image index a b)) → f ≡ number_of (nth c n (parts_of image index i))
-  nth-found c e g h = h ∙ rw (e, g, p, q)
-
-  -- the first part of a class, where no other is wanted
-  pub first_found : {w : Kinds} (c : Class) {n m : ℕ} {f : Option ℕ} → w ≡ kinds c → m ≡ n → m ≡ 0 → f ≡ number_of (nth_of w 0 (parts_from image index a b)) → f ≡ number_of (nth c n (parts_of image index i))
-  first_found c e g z h = nth-found c e (sym z ∙ g) h
-
   -- the last part of a class
   pub last_found : {w : Kinds} (c : Class) {f : Option ℕ} → w ≡ kinds c → f ≡ number_of (last_of w (parts_from image index a b)) → f ≡ number_of (last c (parts_of image index i))
   last_found c e h = h ∙ rw (e, p, q)
-
--- the `+` of a field
-pub plus-found : (index image : List ℕ) (i : ℕ) {a b : ℕ} {f : Option ℕ} → a ≡ i + 1 → b ≡ end_at index i → f ≡ number_of (plus_of (parts_from image index a b)) → f ≡ number_of (plus_of (parts_of image index i))
-plus-found index image i p q h = h ∙ rw (p, q)
-
--- the first of two that is there
-pub or_found : (x y : Option Part) {f g h : Option ℕ} → f ≡ number_of x → g ≡ number_of y → h ≡ or_else f g → h ≡ number_of (or_else x y)
-or_found x y p q r = r ∙ rw (p, q) (go x)
-  where
-    go : (x : Option Part) → or_else (number_of x) (number_of y) ≡ number_of (or_else x y)
-    go nothing = refl
-    go (some x) = refl
 
 -- ---- whether a part is there
 

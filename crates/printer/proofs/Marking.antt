@@ -6,7 +6,7 @@ use mathlib.Core.Bool.{or_assoc, or-false as or-idle, false≢true}
 use mathlib.Core.Option.{none as nothing, some}
 use native.Mathlib.Omega.{arith}
 use lib.Bits.{bit_or, or_shr, or_step}
-use borrow.Author.Tests.{eq-eqb, ne_eqb, eqb-true, eqb-false, ltb-true, lt-leb, not-true, not-false}
+use borrow.Author.Tests.{eq-eqb, ne_eqb, eqb-true, eqb-false, ltb-true, lt-leb, not-true}
 use Rattle.text.specs.Basic.{any, present}
 use Rattle.text.proofs.Below.{all_below, below, agree, same-below}
 use Rattle.tree.specs.Tree.{Part}
@@ -55,18 +55,6 @@ marks-any ps {sure} n = record {
   absent = λ w h u. absurd (false≢true (sym u ∙ below want_count (λ w. marked 18446744073709551615 w) refl w h));
   there = λ s. absurd (false≢true (sym (not-true sure n) ∙ s));
 }
-
--- marks that are sure where it is asked
-pub marks_for : {ps : List Part} {a b : Bool} {m : ℕ} → Marks ps a m → (b ≡ true → a ≡ true) → Marks ps b m
-marks_for k f = record { absent = k.absent; there = λ s. k.there (f s) }
-
--- or anywhere
-pub marks-told : {ps : List Part} {a : Bool} {m : ℕ} → Marks ps a m → not a ≡ false → Marks ps true m
-marks-told {ps} {a} k h = marks_for k (λ s. not-false a h)
-
--- or nowhere
-pub marks_weak : {ps : List Part} {a : Bool} {m : ℕ} → Marks ps a m → Marks ps false m
-marks_weak k = marks_for k (λ s. absurd (false≢true s))
 
 -- a mark is set in one of two masks
 or_marked : (a b w : ℕ) → marked (bit_or a b) w ≡ (marked a w || marked b w)

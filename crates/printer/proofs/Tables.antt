@@ -11,7 +11,7 @@ use Rattle.plan.specs.Words.{word_count}
 use Rattle.printer.specs.declared.rows.Entry.{Entry}
 use Rattle.printer.specs.declared.rows.Extent.{Extent}
 use Rattle.printer.specs.Layout.{layout}
-use Rattle.printer.specs.Rows.{want_count, piece_count, want_at, piece_at, piece_of, tested, settled, all_pieces, bits_at, part_named, entry_of, extent_of, kinds_in, Coded, RowOf, WantOf}
+use Rattle.printer.specs.Rows.{want_count, piece_count, want_at, piece_at, piece_of, tested, settled, all_pieces, bits_at, part_named, entry_of, extent_of, Coded, RowOf, WantOf}
 
 -- ---- wanted parts
 

@@ -16,7 +16,7 @@ use Rattle.plan.specs.Words.{words}
 use Rattle.children.proofs.Uses.{child_is}
 use Rattle.printer.specs.Walked.{stated}
 use Rattle.printer.proofs.Single.{lone-there, lone_is, spec-kid, specs-none, specs-some, specs-walks}
-use Rattle.printer.proofs.Nodes.{rowed-rest, element-fits, node-token, node-own, node_row}
+use Rattle.printer.proofs.Nodes.{element-fits, node-token, node-own, node_row}
 use borrow.Author.Tests.{not-true, not-false}
 use Rattle.tree.specs.Answer.{found}
 use Rattle.printer.specs.Reads.{number_or}
@@ -227,7 +227,7 @@ unfolding element
 node-returns-in-56 t c = by (node-own c.requires c.kind_at-k.ensures 56 c.in-56.is) (c.plan_token-in-56.ensures _)
 
 pub node-returns-in_default : goal.node-returns-in_default
-node-returns-in_default t c = by (node_row c.requires c.kind_at-k.ensures (rowed-rest _ c.if-k-ge-FIRST_TOKEN.false c.in_default.in_default-own.rest.0.0.0.0.0.0.1 c.in_default.in_default-own.rest.0.0.0.0.0.1 c.in_default.in_default-own.rest.0.0.0.0.1 c.in_default.in_default-own.rest.0.0.0.1 c.in_default.in_default-own.rest.0.0.1 c.in_default.in_default-own.rest.0.1 c.in_default.in_default-own.rest.1)) c.row.ensures
+node-returns-in_default t c = by (node_row c.requires c.kind_at-k.ensures (search rules)) c.row.ensures
 
 -- ---- one
 
