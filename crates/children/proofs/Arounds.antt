@@ -17,7 +17,7 @@ use Rattle.numbers.specs.declared.Element.{Element}
 use Rattle.tree.specs.Class.{is, of_kind, one_of, number_of, all_of}
 use Rattle.tree.specs.Answer.{found}
 use Rattle.tree.specs.Index.{Region, kind_at, part_at, parts_from, end_at}
-use Rattle.tree.proofs.Siblings.{region-part, region-past, region-next, parts-over}
+use Rattle.tree.proofs.Siblings.{region-part, region-next, parts-over}
 use Rattle.children.specs.declared.around.Notes.{Notes}
 use Rattle.children.specs.Reading.{up_to, behind_part, up_to_part, between, foreign_at, with_trivia, strict, leading, trivia_before, trivia_after}
 use Rattle.children.specs.Stretch.{notes, Jumps, here, Stretch}
@@ -155,9 +155,6 @@ module _ {index image : List ℕ} {a b j : ℕ} (K : Seeking index image a b j) 
     pub seeking-more : not t ≡ false → {next : ℕ} → next ≡ end_at index j → Seeking index image a b next
     seeking-more h e = rw e (record { region = region-next K.region lt; rest = rw (not-false t h) at step })
 
-    pub seeking-less : {next : ℕ} → next ≡ end_at index j → b - next < b - j
-    seeking-less e = omega (arith, region-past K.region lt)
-
 -- ---- what comes first
 
 pub record Heading (index image : List ℕ) (a b j : ℕ) : Type 0 where
@@ -209,9 +206,6 @@ module _ {index image : List ℕ} {a b j : ℕ} (K : Heading index image a b j) 
       ) (K.rest ∙ rw (next-is, not-false t h));
       ends = K.ends ∙ to_is ∙ rw (not-false t h);
     })
-
-    pub heading-less : {next : ℕ} → next ≡ end_at index j → b - next < b - j
-    heading-less e = omega (arith, region-past K.region lt)
 
 -- ---- trivia_before and trivia_after
 

@@ -52,7 +52,6 @@ module _ {index image : List ℕ} {w : Kinds} {loose after : Bool} {from b : ℕ
 
 -- the same at the first gap of a reading with a trailing list
 module _ {index image : List ℕ} {w : Kinds} {loose : Bool} {from b : ℕ} {r : Span} (h : Leads image index w loose from b r) where
-
   -- its end is reached from its beginning
   pub lead-reached : Stretch image index from r.to
   lead-reached = rw h.begins at (stretch_both h.lies.first h.lies.second)

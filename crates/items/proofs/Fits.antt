@@ -7,7 +7,7 @@ use native.Mathlib.Omega.{arith}
 use native.Mathlib.Nat.{add-zero, zero-add}
 use native.Mathlib.Numerals.{add-one}
 use lib.ListN.{length, set, length-append}
-use lib.Seq.{sets-eq, length-sets}
+use lib.Seq.{sets-eq}
 use borrow.Author.Tests.{lt-ltb, ltb-true}
 use Rattle.text.specs.Basic.{all, All, ∅, ◌▹◌}
 use Rattle.std.specs.Prelude.{Some, None}
@@ -157,11 +157,6 @@ puts-append {xs} {ys} {rs} {ts} {p = p} h k =
       texts = k.texts ∙ rw (h.texts, h.size, bytes-append xs ys) (store-append (bytes xs) (bytes ys) ts p.texts);
       size = k.size ∙ ap (sized ys) h.size ∙ sized-append xs ys p;
     }
-
--- buffers keep their lengths
-pub puts-same : {xs : List Item} {rs ts rs' ts' : List ℕ} {p d : Size} → Puts xs rs ts p rs' ts' d → (length rs' ≡ length rs) × (length ts' ≡ length ts)
-unfolding store
-puts-same {xs} {rs} {ts} {p = p} h = (ap length h.records ∙ length-sets rs (record_size * p.records) (words p.texts xs), ap length h.texts ∙ length-sets ts p.texts (bytes xs))
 
 pub puts_none : (rs ts : List ℕ) (p : Size) → Puts [] rs ts p rs ts p
 unfolding store words bytes

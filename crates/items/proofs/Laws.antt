@@ -72,9 +72,6 @@ full-kept {o} {a} e h = go a.size (rw e at h.ran)
 pub record Going (xs ys : List Item) (o a : Output) : Type 0 where
   pub rest : {b : Output} → Says ys a b → Says xs o b
 
-pub going-none : (xs : List Item) (o : Output) → Going xs xs o o
-going-none xs o = record { rest = λ h. h }
-
 pub going_more : {xs ys zs us : List Item} {o a b : Output} → Going xs ys o a → ys ≡ us ++ zs → Says us a b → Going xs zs o b
 going_more g e h = record { rest = λ k. g.rest (rw e (h ▸▸ k)) }
 

@@ -2,10 +2,9 @@
 use Rattle.std.specs.Prelude.{◌≡◌, ℕ, ◌-◌, ◌<◌, ◌≤◌, Bool, true, false, cond, not, ◌||◌, eqb, List, [], ◌∷◌, ◌++◌}
 use mathlib.Core.Path.{refl, sym, ◌∙◌}
 use mathlib.Core.Bool.{false≢true}
-use native.Mathlib.Omega.{arith}
 use borrow.Author.Tests.{not-true, not-false}
 use Rattle.text.specs.Basic.{is_nil, any}
-use Rattle.items.specs.Item.{Item, Print, none, says, when}
+use Rattle.items.specs.Item.{Item, none, says}
 use Rattle.comments.specs.Comments.{Location, comment}
 use Rattle.plan.specs.Comments.{comments}
 use Rattle.tree.specs.Tree.{Part}
@@ -13,26 +12,16 @@ use Rattle.tree.specs.declared.class.Class.TheVariants as Class
 use Rattle.tree.specs.declared.class.Kinds.{Kinds}
 use Rattle.tree.specs.Class.{kinds, one_of, all_of}
 use Rattle.tree.specs.Index.{Region, kind_at, part_at, parts_from, end_at}
-use Rattle.tree.proofs.Siblings.{region-part, region-past, region-next, parts-over}
+use Rattle.tree.proofs.Siblings.{region-part, region-next, parts-over}
 use Rattle.children.specs.declared.gap.Span.{Span}
 use Rattle.children.specs.Stretch.{inline_in, waiting_in, notes as note_kinds}
 use Rattle.children.specs.Tally.{speaks}
 use Rattle.children.specs.Spans.{Lies, gap_at}
-use Rattle.plan.specs.Ops.{token, note, operand_limit}
+use Rattle.plan.specs.Ops.{token, note}
 use Rattle.tree.specs.Source.{Source, source_at}
 use Rattle.plan.specs.declared.Planner.{Planner}
 use Rattle.plan.specs.Plans.{Planned, planning, Plans}
 use Rattle.plan.proofs.Laws.{planning_seq, planning-none, idle, ◌▸◌, by, as_planned}
-
--- ---- tests
-
-pub when_yes : (s : Source) (b : Bool) (p : Print) {o a : Planner} → b ≡ true → Plans s p o a → Plans s (when b p) o a
-unfolding when
-when_yes s b p e h = rw e h
-
-pub when_no : (s : Source) (b : Bool) (p : Print) {o : Planner} → b ≡ false → Plans s (when b p) o o
-unfolding when
-when_no s b p e = rw e idle
 
 -- ---- some comments, and then others
 
@@ -86,12 +75,6 @@ module _ {image index : List ℕ} {w : Kinds} {from b : ℕ} {loc : Location} {o
   noting-all h = K.rest (rw (parts-over index image j b h) idle)
 
   module _ (lt : j < b) where
-    pub noting-less : {next : ℕ} → next ≡ end_at index j → b - next < b - j
-    noting-less e = omega (arith, region-past K.region lt)
-
-    pub noting-few : j < operand_limit
-    noting-few = omega (arith, K.region.ends, K.region.table.few)
-
     pub noting-more : {next : ℕ} {c : Planner} → Plans (source_at image index) (comments (all_of w (part_at image index j ∷ [])) loc) a c → next ≡ end_at index j → Noting image index w from b loc o c next
     noting-more h e = rw e (record {
       region = region-next K.region lt;

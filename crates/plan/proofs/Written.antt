@@ -140,6 +140,3 @@ module _ {s : Source} {ops : List ℕ} {n : ℕ} {rs ts rs' ts' : List ℕ} {p :
   pub writing_more : i < length (take n ops) → {rs'' ts'' : List ℕ} {d : Size} → Puts (op_items s (get_or (take n ops) i 0)) rs' ts' p rs'' ts'' d → Writing s ops n rs ts rs'' ts'' d (i + 1)
   unfolding decoded
   writing_more h k = record { counts = counting_more b w.counts h k.size; so_far = rw (add-one i) (puts-append w.so_far (rw (in_front ops n i b h).1 at k)) }
-
-  pub writing_all : length (take n ops) ≤ i → Puts (decoded s ops n) rs ts (no_size false) rs' ts' p
-  writing_all h = let e : n ≡ i = omega (arith, h, w.counts.within, length-take-le n ops b) in rw e w.so_far

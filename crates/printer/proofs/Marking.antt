@@ -15,7 +15,7 @@ use Rattle.tree.specs.declared.class.Class.TheVariants as Class
 use Rattle.tree.specs.Class.{kinds, one_of, of_kind, is, is_plus, nth_of, nth, plus_of, number_of}
 use Rattle.tree.specs.Index.{kind_at, end_at, parts_from, Region}
 use Rattle.tree.proofs.Passing.{or_false}
-use Rattle.tree.proofs.Siblings.{region-part, region-past, region-next, parts-over}
+use Rattle.tree.proofs.Siblings.{region-part, region-next, parts-over}
 use Rattle.printer.specs.Layout
 use Rattle.printer.specs.Rows.{wants, want_at, wanted, want_count, marked, MarksOf, Marks}
 use Rattle.printer.specs.Under.{At, parts_of}
@@ -84,9 +84,6 @@ module _ {image index : List ℕ} {a end : ℕ} where
   marking-none t e f = record { region = at-region t e f; rest = λ w h. rw (none-marked w h) }
 
   module _ {m j : ℕ} (r : Marking image index a end m j) where
-    pub marking-less : {k : ℕ} → j < end → k ≡ end_at index j → end - k < end - j
-    marking-less h q = omega (arith, region-past r.region h)
-
     pub marking-more : {k n q : ℕ} → j < end → k ≡ end_at index j → q ≡ kind_at index j → MarksOf q n → Marking image index a end (bit_or m n) k
     unfolding any
     marking-more {k} {n} {q} h f g s =

@@ -21,7 +21,7 @@ use Rattle.tree.specs.declared.class.Class.{Class}
 use Rattle.tree.specs.declared.class.Kinds.{Kinds}
 use Rattle.tree.specs.Class.{kinds, one_of, nth, plus_of, number_of}
 use Rattle.tree.specs.Index.{kind_at, end_at, part_at, parts_from, Region}
-use Rattle.tree.proofs.Siblings.{region-part, region-past, region-next, parts-over}
+use Rattle.tree.proofs.Siblings.{region-part, region-next, parts-over}
 use Rattle.children.specs.Stretch.{Stretch}
 use Rattle.children.proofs.Stretch.{stretch_none, stretch_both}
 use Rattle.printer.specs.declared.rows.Entry.{Entry}
@@ -199,9 +199,6 @@ module _ {image index : List ℕ} {i : ℕ} {o : Planner} where
     -- the next part is a child
     pub eaching-kid : j < end → Kid image index i j
     eaching-kid h = kid_of r.at r.reached (omega (arith, e))
-
-    pub eaching-less : {k : ℕ} → j < end → k ≡ end_at index j → end - k < end - j
-    eaching-less h q = omega (arith, region-past r.region (omega (arith, e)))
 
     pub eaching-more : {k : ℕ} {b : Planner} → j < end → k ≡ end_at index j → Plans (source_at image index) (each_of (under image i) c s ended (part_at image index j ∷ [])) a b → Eaching image index i c s ended o b k
     eaching-more h q p =
