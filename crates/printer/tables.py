@@ -17,7 +17,7 @@ from pathlib import Path
 
 HERE = Path(__file__).resolve().parent
 LAYOUT, ROWS, CODE = (HERE / path for path in ("specs/Layout.antt", "specs/Rows.antt", "src/rows.rt"))
-TEXTS, WORDS, STARTS = (HERE.parent / "plan" / path for path in ("specs/Words.antt", "src/words.rt", "proofs/words/start_of/Answers.antt"))
+TEXTS, WORDS = (HERE.parent / "plan" / path for path in ("specs/Words.antt", "src/words.rt"))
 CLASS, KIND = (HERE.parent / path for path in ("tree/src/class.rt", "numbers/src/kind.rt"))
 
 # The texts of the constants of src/words.rt; number 0 is no text.
@@ -199,13 +199,13 @@ def marks_entries(tables):
     return {k: f"0x{m:x}" for k, m in enumerate(marks)}
 
 
-# The tables of src/rows.rt: the function that has one, its entries, and the laws that an entry is that of its number, by computed
-# tests, and of a number that has none.
+# The tables of src/rows.rt: the function that has one, its entries, and the law by which an entry is that of its number, by computed
+# tests; none where the check finds each answer.
 TABLES = (
-    ("row_code", row_entries, "rowed {} {} refl refl", "no_arm {} c.requires {}"),
-    ("piece_code", piece_entries, "coded {} {} refl refl refl", "no_arm {} c.requires {}"),
-    ("want_code", want_entries, "want-coded {} {} refl refl", "no_arm {} c.requires {}"),
-    ("marks_of", marks_entries, "marks-coded {} {} refl", "marks-beyond {0} (behind-all {0} _ {1}) refl"),
+    ("row_code", row_entries, "rowed {} {} refl refl"),
+    ("piece_code", piece_entries, "coded {} {} refl refl refl"),
+    ("want_code", want_entries, None),
+    ("marks_of", marks_entries, None),
 )
 
 
@@ -220,18 +220,17 @@ def with_arms(text, name, entries):
 
 
 def rows_code(tables, text):
-    for name, entries, _, _ in TABLES:
+    for name, entries, _ in TABLES:
         text = with_arms(text, name, entries(tables))
     return text
 
 
-def arms_proof(entries, law, last):
-    """An answer for each entry of a table, and one for a number that has none."""
+def arms_proof(entries, law):
+    """An answer for each entry of a table."""
     def made(tables, text):
         numbers = entries(tables)
         head, unfolding = text[:text.index("pub returns-")], re.search(r"^unfolding .*$", text, re.M)[0]
         answers = {f"in-{n}": law.format(n, f"c.in-{n}.is") for n in numbers}
-        answers["in_default"] = last.format(len(numbers), "c.in_default.in_default-own.rest")
         return head + "\n".join(f"pub returns-{arm} : goal.returns-{arm}\n{unfolding}\nreturns-{arm} c = {answer}\n" for arm, answer in answers.items())
     return made
 
@@ -247,8 +246,7 @@ def words_code(tables, text):
 def main():
     tables, check, status = Tables(LAYOUT.read_text()), "--check" in sys.argv, 0
     files = [(ROWS, rows_definition), (CODE, rows_code), (TEXTS, words_definition), (WORDS, words_code)]
-    files += [(STARTS, arms_proof(word_starts, "starts {} refl {}", "no_arm {} (at_most c.requires) {}"))]
-    files += [(HERE / f"proofs/rows/{name}/Answers.antt", arms_proof(entries, law, last)) for name, entries, law, last in TABLES]
+    files += [(HERE / f"proofs/rows/{name}/Answers.antt", arms_proof(entries, law)) for name, entries, law in TABLES if law]
     for path, made in files:
         old = path.read_text()
         new = made(tables, old)

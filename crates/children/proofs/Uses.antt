@@ -11,8 +11,7 @@ use Rattle.children.specs.declared.gap.Span.{Span}
 use Rattle.children.specs.declared.survey.Outline.{Outline}
 use Rattle.children.specs.Reading.{pass, start}
 use Rattle.children.specs.Gaps.{Gaps, gaps, is_child, is_foreign}
-use Rattle.tree.specs.Index.{Region, parts_from, part_at, end_at}
-use Rattle.tree.proofs.Siblings.{region-next}
+use Rattle.tree.specs.Index.{parts_from, part_at, end_at}
 use Rattle.children.specs.Stretch.{Stretch}
 use Rattle.children.specs.Spans.{Spans, spanned, gap_at, Outlines, Surveyed}
 use Rattle.children.specs.Lead.{Leads, SurveyedAfter}
@@ -53,10 +52,6 @@ module _ {index image : List ℕ} {w : Kinds} {loose after : Bool} {from b : ℕ
 
 -- the same at the first gap of a reading with a trailing list
 module _ {index image : List ℕ} {w : Kinds} {loose : Bool} {from b : ℕ} {r : Span} (h : Leads image index w loose from b r) where
-  -- where the next gap begins
-  pub lead-next : (next : ℕ) → r.end ≡ End.Child → next ≡ end_at index r.to → Region image index next b
-  lead-next next e q = rw q (region-next h.onward (h.inside e))
-
   -- its end is reached from its beginning
   pub lead-reached : Stretch image index from r.to
   lead-reached = rw h.begins at (stretch_both h.lies.first h.lies.second)

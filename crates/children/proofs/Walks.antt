@@ -7,9 +7,9 @@ use native.Mathlib.Omega.{arith}
 use Rattle.tree.specs.Tree.{Part}
 use Rattle.tree.specs.declared.class.Kinds.{Kinds}
 use Rattle.tree.specs.Class.{one_of, all_of}
-use Rattle.tree.specs.Index.{Table, Region, parts_from, part_at, end_at}
+use Rattle.tree.specs.Index.{Table, parts_from, part_at, end_at}
 use Rattle.tree.proofs.Siblings.{parts_next, parts-over}
-use Rattle.children.specs.Stretch.{Stretch, Jumps, here, jump}
+use Rattle.children.specs.Stretch.{Jumps, here, jump}
 use Rattle.children.proofs.Stretch.{jumps-le}
 
 module _ {index image : List ℕ} {n : ℕ} (t : Table image index n) where
@@ -31,7 +31,3 @@ all_more w (y ∷ ys) x = go (one_of w y.kind) (all_more w ys x)
     go : (b : Bool) → all_of w (ys ++ x ∷ []) ≡ all_of w ys ++ cond (one_of w x.kind) (x ∷ []) [] → cond b (y ∷ all_of w (ys ++ x ∷ [])) (all_of w (ys ++ x ∷ [])) ≡ cond b (y ∷ all_of w ys) (all_of w ys) ++ cond (one_of w x.kind) (x ∷ []) []
     go true e = ap (λ (r : List Part). y ∷ r) e
     go false e = e
-
--- a stretch may be walked
-pub stretch_region : {index image : List ℕ} {a b : ℕ} → Stretch image index a b → Region image index a b
-stretch_region r = record { n = r.n; table = r.table; begins = omega (arith, jumps-le r.table r.jumps, r.upto); ends = r.upto }

@@ -40,8 +40,13 @@ pub fn format_comment(out: &mut Output, kind: u32, s: &[u8], loc: CommentLocatio
         kind::MULTI_LINE_COMMENT => block::print_multi_line(out, s, loc),
         kind::ERROR_COMMENT_TOO_SHORT => out.print_text(b"/*/"),
         kind::ERROR_COMMENT_UNTERMINATED => out.print_text(s),
-        kind::SINGLE_LINE_HASH_COMMENT => plain::print_hash(out, s, loc),
-        kind::SINGLE_LINE_SLASH_COMMENT => plain::print_slash(out, s, loc),
+        kind::SINGLE_LINE_HASH_COMMENT => plain::print_single(out, b"# ", text::behind(s, 1), loc),
+        kind::SINGLE_LINE_SLASH_COMMENT => plain::print_single(
+            out,
+            b"// ",
+            text::behind(s, 2),
+            loc,
+        ),
         _ => plain::print_error(out, s),
     }
 }

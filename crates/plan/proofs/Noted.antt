@@ -5,9 +5,10 @@ use mathlib.Core.Bool.{false≢true}
 use native.Mathlib.Omega.{arith}
 use borrow.Author.Tests.{not-true, not-false}
 use Rattle.text.specs.Basic.{is_nil, any}
-use Rattle.items.specs.Item.{Item, Print, none, says, when}
+use Rattle.items.specs.Item.{Item, none, says}
 use Rattle.comments.specs.Comments.{Location, comment}
 use Rattle.plan.specs.Comments.{comments}
+use Rattle.plan.specs.Ops.{operand_limit}
 use Rattle.tree.specs.Tree.{Part}
 use Rattle.tree.specs.declared.class.Class.TheVariants as Class
 use Rattle.tree.specs.declared.class.Kinds.{Kinds}
@@ -18,21 +19,11 @@ use Rattle.children.specs.declared.gap.Span.{Span}
 use Rattle.children.specs.Stretch.{inline_in, waiting_in, notes as note_kinds}
 use Rattle.children.specs.Tally.{speaks}
 use Rattle.children.specs.Spans.{Lies, gap_at}
-use Rattle.plan.specs.Ops.{token, note, operand_limit}
+use Rattle.plan.specs.Ops.{token, note}
 use Rattle.tree.specs.Source.{Source, source_at}
 use Rattle.plan.specs.declared.Planner.{Planner}
 use Rattle.plan.specs.Plans.{Planned, planning, Plans}
 use Rattle.plan.proofs.Laws.{planning_seq, planning-none, idle, ◌▸◌, by, as_planned}
-
--- ---- tests
-
-pub when_yes : (s : Source) (b : Bool) (p : Print) {o a : Planner} → b ≡ true → Plans s p o a → Plans s (when b p) o a
-unfolding when
-when_yes s b p e h = rw e h
-
-pub when_no : (s : Source) (b : Bool) (p : Print) {o : Planner} → b ≡ false → Plans s (when b p) o o
-unfolding when
-when_no s b p e = rw e idle
 
 -- ---- some comments, and then others
 
@@ -72,9 +63,6 @@ pub record Noting (image index : List ℕ) (w : Kinds) (from b : ℕ) (loc : Loc
   pub region : Region image index j b
   pub rest : {z : Planner} → Plans (source_at image index) (comments (all_of w (parts_from image index j b)) loc) a z → Plans (source_at image index) (comments (all_of w (parts_from image index from b)) loc) o z
 
-pub noting_none : {image index : List ℕ} {from b : ℕ} (w : Kinds) (loc : Location) (o : Planner) → Region image index from b → Noting image index w from b loc o o from
-noting_none w loc o r = record { region = r; rest = λ h. h }
-
 all_first : (w : Kinds) (x : Part) (xs : List Part) → all_of w (x ∷ xs) ≡ all_of w (x ∷ []) ++ all_of w xs
 unfolding all_of
 all_first w x xs = go (one_of w x.kind)
@@ -82,6 +70,9 @@ all_first w x xs = go (one_of w x.kind)
     go : (t : Bool) → cond t (x ∷ all_of w xs) (all_of w xs) ≡ cond t (x ∷ []) [] ++ all_of w xs
     go true = refl
     go false = refl
+
+pub noting_none : {image index : List ℕ} {from b : ℕ} (w : Kinds) (loc : Location) (o : Planner) → Region image index from b → Noting image index w from b loc o o from
+noting_none w loc o r = record { region = r; rest = λ h. h }
 
 module _ {image index : List ℕ} {w : Kinds} {from b : ℕ} {loc : Location} {o a : Planner} {j : ℕ} (K : Noting image index w from b loc o a j) where
   pub noting-all : b ≤ j → Plans (source_at image index) (comments (all_of w (parts_from image index from b)) loc) o a

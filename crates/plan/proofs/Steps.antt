@@ -27,10 +27,9 @@ use Rattle.plan.specs.Words.{word_count}
 use Rattle.plan.specs.Ops.{token, note, expand, op_items, coded, operand_limit, decoded, note_kind}
 use Rattle.tree.specs.Source.{Source}
 use Rattle.plan.proofs.Laws.{seen-going, seen-still, going-full, ended-going, frame-none, frame-both, by}
-use Rattle.plan.specs.declared.Halt.{Halt}
 use Rattle.plan.specs.declared.Halt.TheVariants.{Stopped, Full}
 use Rattle.plan.specs.declared.Planner.{Planner}
-use Rattle.plan.specs.Plans.{planned, joined, planning, context_at, items_at, told, seen, items_in, or_halt, halting, Kept, Adds, Plans}
+use Rattle.plan.specs.Plans.{planned, joined, planning, context_at, items_at, told, seen, items_in, Kept, Adds, Plans}
 use Rattle.plan.specs.Load.{number_in, load, Carried}
 use Rattle.plan.proofs.Loads.{load-append, length-load, weigh-more}
 use Rattle.plan.proofs.Still.{comment-still}
@@ -123,21 +122,6 @@ module _ (s : Source) (o : Planner) (g : false ≡ is_some o.halt) where
     within = λ l. l;
     none = λ n. (refl, refl, refl);
   }
-
--- a planner that is halted keeps its reason, and another gets the new one
-module _ (o : Planner) (x : Halt) where
-  halting-as : (h : Option Halt) → h ≡ or_halt o.halt x → record { ops = o.ops; halt = h; operations = o.operations; runs = o.runs; mode = o.mode } ≡ halting x o
-  halting-as h e = rw e refl
-
-  pub halting-still : true ≡ is_some o.halt → o ≡ halting x o
-  halting-still i = halting-as o.halt (go o.halt (sym i))
-    where
-      go : (h : Option Halt) → is_some h ≡ true → h ≡ or_halt h x
-      go None e = absurd (false≢true e)
-      go (Some y) e = refl
-
-  pub halting-new : false ≡ is_some o.halt → record { ops = o.ops; halt = Some x; operations = o.operations; runs = o.runs; mode = o.mode } ≡ halting x o
-  halting-new i = halting-as (Some x) (ap (λ h. or_halt h x) (sym (is-none o.halt (sym i))))
 
 -- ---- runs
 
@@ -315,30 +299,6 @@ note-planned s l k v e h = by (ap says (note-is l)) (rw e at h)
     note-is above_item = refl
     note-is item_inline = refl
     note-is end_of_items = refl
-
-pub signal-below : (x : Signal) (k : ℕ) → k ≡ signal_kind x → k < 32
-signal-below x k e = rw e (go x)
-  where
-    go : (x : Signal) → signal_kind x < 32
-    go NewLine = omega arith
-    go SpaceOrNewLine = omega arith
-    go Tab = omega arith
-    go StartIndent = omega arith
-    go FinishIndent = omega arith
-    go StartGroup = omega arith
-    go FinishGroup = omega arith
-    go StartBlock = omega arith
-    go FinishBlock = omega arith
-    go Else = omega arith
-    go EndIf = omega arith
-
-pub note-below : (l : Location) (k : ℕ) → k ≡ note_kind l → k < 32
-note-below l k e = rw e (go l)
-  where
-    go : (l : Location) → note_kind l < 32
-    go above_item = omega arith
-    go item_inline = omega arith
-    go end_of_items = omega arith
 
 pub always-planned : (s : Source) (t : Condition) {o a : Planner} → t ≡ Always → Plans s (says (expand s 15 0)) o a → Plans s (say (if_test (condition_test t))) o a
 unfolding say says expand plain_item

@@ -1,7 +1,8 @@
 -- The formatter's own texts, each in its place among all of them.
-use Rattle.std.specs.Prelude.{◌≡◌, ℕ, ◌+◌, ◌-◌, ◌<◌, ◌≤◌, List, [], length, take, drop}
-use mathlib.Core.Path.{refl, sym}
-use native.Mathlib.Omega.{arith}
+use Rattle.std.specs.Prelude.{◌≡◌, ℕ, ◌+◌, ◌-◌, ◌<◌, ◌≤◌, List, [], ◌∷◌, length, take, drop}
+use mathlib.Core.Path.{refl, sym, ap, ◌∙◌}
+use mathlib.Core.List.{flatten, map}
+use Rattle.std.proofs.Common.{length-append}
 use lib.ListN.{get_or-eq_default}
 use Rattle.text.specs.Basic.{ascii}
 use borrow.Author.Tests.{eq-eqb, ne_eqb}
@@ -10,12 +11,19 @@ use Rattle.text.proofs.Words as W
 use Rattle.items.specs.Item.{none, lit}
 use Rattle.plan.specs.Words.{words, word_at, word_or_none, word_count}
 
--- the text with the number j starts here
-pub starts : (j : ℕ) {w n : ℕ} → word_start words j ≡ n → w ≡ j → n ≡ word_start words w
-starts j e h = rw h (sym e)
+-- how many bytes texts have in all
+abbrev pub bytes : List (List ℕ) → ℕ
+bytes [] = 0
+bytes (s ∷ ss) = length s + bytes ss
 
-pub at_most : {w : ℕ} → w ≤ word_count → w < 51
-at_most h = omega (arith, h)
+joined_bytes : (ss : List (List ℕ)) → length (flatten ss) ≡ bytes ss
+unfolding flatten
+joined_bytes [] = refl
+joined_bytes (s ∷ ss) = length-append s (flatten ss) ∙ ap (λ (n : ℕ). length s + n) (joined_bytes ss)
+
+-- a text starts behind the bytes of those before it
+pub starts : (w : ℕ) → word_start words w ≡ bytes (take w (map ascii words))
+starts w = joined_bytes (take w (map ascii words))
 
 -- there are so many
 words-counted : length words ≡ word_count

@@ -13,7 +13,7 @@ use Rattle.items.specs.declared.Output.{Output}
 use Rattle.items.specs.declared.Size.{Size}
 use Rattle.items.specs.Machine.{all_fit, sized, no_size, Puts, output, Says}
 use Rattle.items.proofs.Fits.{sized-none, sized-append, puts_none, puts-append, fit_append, said-puts, said-done}
-use Rattle.comments.specs.Comments.{Location, end_of_items, comment}
+use Rattle.comments.specs.Comments.{Location, comment}
 use Rattle.tree.specs.Index.{kind_at}
 use Rattle.plan.specs.Words.{word_at}
 use Rattle.plan.specs.Ops.{token, note, place_by, expand, op_items, decoded}
@@ -49,12 +49,6 @@ pub texted : {s t : List ℕ} → s ≡ t → text s ∷ [] ≡ text t ∷ []
 texted e = rw e refl
 
 -- ---- a comment
-
-pub place_at : (j : ℕ) {k : ℕ} → k ≡ j → place_by j ≡ place_by k
-place_at j e = rw e refl
-
-pub place_else : (k : ℕ) → (k ≡ 19 → ⊥) → (k ≡ 20 → ⊥) → end_of_items ≡ place_by k
-place_else k e f = rw (ne_eqb k 19 e, ne_eqb k 20 f) refl
 
 pub noted : (s : Source) (t : ℕ) {l m : Location} → l ≡ m → note s t l ≡ note s t m
 noted s t e = rw e refl
@@ -129,9 +123,6 @@ module _ {s : Source} {ops : List ℕ} {n : ℕ} {l : Bool} {p : Size} {i : ℕ}
       let (k, o) = in_front ops n i b h in
       rw (add-one i) (record { within = omega (arith, k); fits = w.fits; so_far = rw (o, w.so_far) at e ∙ sized-append (decoded s ops i) (op_items s (get_or ops i 0)) (no_size l) })
 
-  pub counting-all_lem : length (take n ops) ≤ i → p ≡ sized (decoded s ops n) (no_size l)
-  counting-all_lem h = let e : n ≡ i = omega (arith, h, w.within, length-take-le n ops b) in rw e w.so_far
-
 -- The first i operations are written, and so counted.
 pub record Writing (s : Source) (ops : List ℕ) (n : ℕ) (rs ts rs' ts' : List ℕ) (p : Size) (i : ℕ) : Type 0 where
   pub counts : Counting s ops n false p i
@@ -149,6 +140,3 @@ module _ {s : Source} {ops : List ℕ} {n : ℕ} {rs ts rs' ts' : List ℕ} {p :
   pub writing_more : i < length (take n ops) → {rs'' ts'' : List ℕ} {d : Size} → Puts (op_items s (get_or (take n ops) i 0)) rs' ts' p rs'' ts'' d → Writing s ops n rs ts rs'' ts'' d (i + 1)
   unfolding decoded
   writing_more h k = record { counts = counting_more b w.counts h k.size; so_far = rw (add-one i) (puts-append w.so_far (rw (in_front ops n i b h).1 at k)) }
-
-  pub writing_all : length (take n ops) ≤ i → Puts (decoded s ops n) rs ts (no_size false) rs' ts' p
-  writing_all h = let e : n ≡ i = omega (arith, h, w.counts.within, length-take-le n ops b) in rw e w.so_far

@@ -43,6 +43,7 @@ pub const ALL: [u8; 506] =
 
 // Where the text with a number starts among all of them joined, which is where the one before it ends. A match of constants is one
 // load from a table that lies ready.
+#[tactic(auto, using(crate::proofs::Texts::starts), unfolding(crate::specs::Words::words))]
 fn start_of(w: u32) -> usize
     requires { w ≤ word_count }
     ensures { result ≡ word_start words w }

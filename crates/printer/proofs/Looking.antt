@@ -1,5 +1,5 @@
 -- The laws of looking parts up: what was found is the part that the definition names, and one of the node's.
-use Rattle.std.specs.Prelude.{◌≡◌, ℕ, ◌+◌, Bool, true, false, cond, not, ◌&&◌, ◌||◌, eqb, List, [], ◌∷◌, ◌++◌}
+use Rattle.std.specs.Prelude.{◌≡◌, ℕ, ◌+◌, Bool, true, false, cond, not, ◌&&◌, ◌||◌, List, [], ◌∷◌, ◌++◌}
 use Rattle.std.specs.Prelude as R
 use mathlib.Core.Path.{refl, sym, ◌∙◌}
 use mathlib.Core.Bool.{false≢true}
@@ -28,18 +28,6 @@ module _ (index image : List ℕ) (i : ℕ) {a b : ℕ} (p : a ≡ i + 1) (q : b
   -- the last part of a class
   pub last_found : {w : Kinds} (c : Class) {f : Option ℕ} → w ≡ kinds c → f ≡ number_of (last_of w (parts_from image index a b)) → f ≡ number_of (last c (parts_of image index i))
   last_found c e h = h ∙ rw (e, p, q)
-
--- the `+` of a field
-pub plus-found : (index image : List ℕ) (i : ℕ) {a b : ℕ} {f : Option ℕ} → a ≡ i + 1 → b ≡ end_at index i → f ≡ number_of (plus_of (parts_from image index a b)) → f ≡ number_of (plus_of (parts_of image index i))
-plus-found index image i p q h = h ∙ rw (p, q)
-
--- the first of two that is there
-pub or_found : (x y : Option Part) {f g h : Option ℕ} → f ≡ number_of x → g ≡ number_of y → h ≡ or_else f g → h ≡ number_of (or_else x y)
-or_found x y p q r = r ∙ rw (p, q) (go x)
-  where
-    go : (x : Option Part) → or_else (number_of x) (number_of y) ≡ number_of (or_else x y)
-    go nothing = refl
-    go (some x) = refl
 
 -- ---- whether a part is there
 

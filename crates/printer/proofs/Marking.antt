@@ -6,7 +6,7 @@ use mathlib.Core.Bool.{or_assoc, or-false as or-idle, false≢true}
 use mathlib.Core.Option.{none as nothing, some}
 use native.Mathlib.Omega.{arith}
 use lib.Bits.{bit_or, or_shr, or_step}
-use borrow.Author.Tests.{eq-eqb, ne_eqb, eqb-true, eqb-false, ltb-true, lt-leb, not-true, not-false}
+use borrow.Author.Tests.{eq-eqb, ne_eqb, eqb-true, eqb-false, ltb-true, lt-leb, not-true}
 use Rattle.text.specs.Basic.{any, present}
 use Rattle.text.proofs.Below.{all_below, below, agree, same-below}
 use Rattle.tree.specs.Tree.{Part}
@@ -28,17 +28,17 @@ abbrev pub marks_all : ℕ → ℕ → Bool
 marks_all k m = all_below want_count (λ w. agree (marked m w) (of_kind (want_at w).class k))
 
 -- the marks of a kind in the table
-pub marks-coded : (k : ℕ) {q m : ℕ} → q ≡ k → marks_all k m ≡ true → MarksOf q m
-marks-coded k {q} {m} e t = rw e (record { of-class = same-below want_count (marked m) (λ w. of_kind (want_at w).class k) t })
+pub marks_coded : (k : ℕ) {q m : ℕ} → q ≡ k → marks_all k m ≡ true → MarksOf q m
+marks_coded k {q} {m} e t = rw e (record { of-class = same-below want_count (marked m) (λ w. of_kind (want_at w).class k) t })
 
 -- no mark is set in 0
 none-marked : (w : ℕ) → w < want_count → marked 0 w ≡ false
 none-marked w h = not-true (marked 0 w) (below want_count (λ w. not (marked 0 w)) refl w h)
 
 -- a kind behind those of all classes
-pub marks-beyond : (n : ℕ) {k : ℕ} → n ≤ k → all_below want_count (λ w. ltb (kinds (want_at w).class).hi n) ≡ true → MarksOf k 0
+pub marks_beyond : (n : ℕ) {k : ℕ} → n ≤ k → all_below want_count (λ w. ltb (kinds (want_at w).class).hi n) ≡ true → MarksOf k 0
 unfolding one_of
-marks-beyond n {k} h t = record { of-class = λ w v. none-marked w v ∙ sym (go w (ltb-true _ n (below want_count (λ w. ltb (kinds (want_at w).class).hi n) t w v))) }
+marks_beyond n {k} h t = record { of-class = λ w v. none-marked w v ∙ sym (go w (ltb-true _ n (below want_count (λ w. ltb (kinds (want_at w).class).hi n) t w v))) }
   where
     go : (w : ℕ) → (kinds (want_at w).class).hi < n → of_kind (want_at w).class k ≡ false
     go w v = rw (lt-leb k (kinds (want_at w).class).hi (omega arith)) (no (leb (kinds (want_at w).class).lo k))
@@ -55,18 +55,6 @@ marks-any ps {sure} n = record {
   absent = λ w h u. absurd (false≢true (sym u ∙ below want_count (λ w. marked 18446744073709551615 w) refl w h));
   there = λ s. absurd (false≢true (sym (not-true sure n) ∙ s));
 }
-
--- marks that are sure where it is asked
-pub marks_for : {ps : List Part} {a b : Bool} {m : ℕ} → Marks ps a m → (b ≡ true → a ≡ true) → Marks ps b m
-marks_for k f = record { absent = k.absent; there = λ s. k.there (f s) }
-
--- or anywhere
-pub marks-told : {ps : List Part} {a : Bool} {m : ℕ} → Marks ps a m → not a ≡ false → Marks ps true m
-marks-told {ps} {a} k h = marks_for k (λ s. not-false a h)
-
--- or nowhere
-pub marks_weak : {ps : List Part} {a : Bool} {m : ℕ} → Marks ps a m → Marks ps false m
-marks_weak k = marks_for k (λ s. absurd (false≢true s))
 
 -- a mark is set in one of two masks
 or_marked : (a b w : ℕ) → marked (bit_or a b) w ≡ (marked a w || marked b w)

@@ -23,14 +23,6 @@ pub record Rowed (k : ℕ) : Type 0 where
   pub members : k ≡ 27 → ⊥
   pub args : k ≡ 47 → ⊥
 
--- a kind that is none of those with printers of their own
-pub rowed-rest : (k : ℕ) → k < 64 → (k ≡ 2 → ⊥) → (k ≡ 10 → ⊥) → (k ≡ 22 → ⊥) → (k ≡ 26 → ⊥) → (k ≡ 27 → ⊥) → (k ≡ 47 → ⊥) → (k ≡ 56 → ⊥) → Rowed k
-rowed-rest k h a b c d e f g = record { small = h; visibility = g; expr = a; array = b; local = c; comp = d; members = e; args = f }
-
--- a kind with a row is a node's
-pub rowed-small : (index : List ℕ) (i : ℕ) {k : ℕ} → k ≡ kind_at index i → Rowed k → kind_at index i < 64
-rowed-small index i e r = rw e at r.small
-
 module _ {image index : List ℕ} {i k : ℕ} (t : At image index i) (e : k ≡ kind_at index i) where
   -- a token
   pub node-token : 64 ≤ k → print_of image i ≡ say (text (text_at image index i))

@@ -25,20 +25,18 @@ use Rattle.tree.proofs.Siblings.{region-part, region-next, parts-over}
 use Rattle.children.specs.Stretch.{Stretch}
 use Rattle.children.proofs.Stretch.{stretch_none, stretch_both}
 use Rattle.printer.specs.declared.rows.Entry.{Entry}
-use Rattle.printer.specs.declared.rows.Extent.{Extent}
 use Rattle.printer.specs.declared.rows.What.{What as Code}
 use Rattle.printer.specs.declared.rows.What.TheVariants as C
 use Rattle.printer.specs.Layout
 use Rattle.printer.specs.Layout.{asked, layout, rows}
 use Rattle.printer.specs.Print.{each_of, what, row}
 use Rattle.plan.specs.Words.{words, word_at, word_or_none, word_count}
-use Rattle.printer.specs.Rows.{want_at, what_of, what_in, piece_of, all_pieces, piece_at, tested, settled, Coded, RowOf, Marks, piece_count}
+use Rattle.printer.specs.Rows.{want_at, what_of, what_in, piece_of, all_pieces, piece_at, tested, settled, Coded, Marks, piece_count}
 use Rattle.printer.proofs.Seq.{Goes, goes_none, goes-more, goes-all, seq_assoc, none_first, none_last}
 use Rattle.printer.specs.Under.{At, Kid, under, parts_of, print_of}
 use Rattle.printer.specs.Reads.{number_or, Has}
 use Rattle.printer.proofs.Under.{size, kid_of, kid-found, kid-print, kid-less, at-region}
 use Rattle.printer.proofs.Readings.{part-number, behind_kid}
-use Rattle.printer.proofs.Marking.{marks_for}
 
 -- ---- the pieces of a row in turn
 
@@ -53,9 +51,6 @@ unfolding all_pieces rows flatten
 pieces-count = refl
 
 module _ {image index : List ℕ} {i m : ℕ} {o : Planner} where
-  pub rowing-none : {e : Extent} {k : ℕ} → RowOf k e → k ≡ kind_at index i → Marks (parts_of image index i) e.marks m → Rowing image index i m e.end o o e.start
-  rowing-none r q s = record { few = r.within; marks = λ n h l. marks_for s (r.marking n h l); goes = rw (r.pieces_of, q) (goes_none _ o) }
-
   pub rowing_more : {end n k : ℕ} {a b : Planner} → Rowing image index i m end o a n → n < end
       → Plans (source_at image index) (when (asked (parts_of image index i) (piece_at n)) (what (under image i) (parts_of image index i) (piece_at n).what)) a b → k ≡ n + 1 → Rowing image index i m end o b k
   unfolding row
@@ -67,10 +62,6 @@ module _ {image index : List ℕ} {i m : ℕ} {o : Planner} where
         marks = λ x h l. r.marks x (omega arith) l;
         goes = rw s (goes-more r.goes (rw (q, drop-cons all_pieces n (Layout.t "") (omega (arith, pieces-count, r.few)))) p);
       }
-
-  -- the next piece is one of the table, and the marks are sure if it goes by parts
-  pub rowing-in : {end n : ℕ} {a : Planner} → Rowing image index i m end o a n → n < end → Marks (parts_of image index i) (tested (piece_at n)) m × (n < piece_count)
-  rowing-in {end} {n} r h = (r.marks n (omega arith) h, omega (arith, r.few))
 
   pub rowing-all : {end n : ℕ} {a : Planner} → Rowing image index i m end o a n → end ≤ n → Plans (source_at image index) (row (under image i) (parts_of image index i) (layout (kind_at index i))) o a
   unfolding row

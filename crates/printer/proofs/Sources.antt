@@ -9,7 +9,7 @@ use Rattle.tree.proofs.Passing.{accepted}
 use Rattle.tree.specs.Answer.{found}
 use Rattle.tree.specs.declared.class.Class.TheVariants as Class
 use Rattle.tree.specs.Class.{first, number_of, all_of}
-use Rattle.tree.specs.Index.{Indexed, Region, end_at, parts_from}
+use Rattle.tree.specs.Index.{Indexed, end_at, parts_from}
 use Rattle.children.specs.declared.around.Notes.{Notes}
 use Rattle.plan.specs.Comments.{comments}
 use Rattle.children.specs.Reading.{trivia_before, trivia_after}
@@ -62,10 +62,3 @@ module _
       → source_file (tree_of image) ≡ comments (listed index image before) above_item ⨟ (number_or (under image 0) (lit "/*missing Expr*/") e ⨟ (say newline ⨟ comments (listed index image after) end_of_items))
   unfolding source source_of
   source-whole u v = source_is x ∙ rw (before-is, after_is, u, v, part-number (under image 0) (lit "/*missing Expr*/") (first Class.Expr (parts_of image index 0)), f)
-
-  -- where the notes may be walked
-  pub before-region : Region image index before.from before.to
-  before-region = (g (first Class.Expr (parts_of image index 0)) (sym f)).region
-
-  pub after-region : Region image index after.from after.to
-  after-region = (h (first Class.Expr (parts_of image index 0)) (sym f)).region

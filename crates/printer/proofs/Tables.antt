@@ -11,13 +11,9 @@ use Rattle.plan.specs.Words.{word_count}
 use Rattle.printer.specs.declared.rows.Entry.{Entry}
 use Rattle.printer.specs.declared.rows.Extent.{Extent}
 use Rattle.printer.specs.Layout.{layout}
-use Rattle.printer.specs.Rows.{want_count, piece_count, want_at, piece_at, piece_of, tested, settled, all_pieces, bits_at, option_at, entry_of, extent_of, kinds_in, Coded, RowOf, WantOf}
+use Rattle.printer.specs.Rows.{want_count, piece_count, want_at, piece_at, piece_of, tested, settled, all_pieces, bits_at, option_at, entry_of, extent_of, Coded, RowOf, WantOf}
 
 -- ---- wanted parts
-
--- the number of a wanted part in the table
-pub want-coded : (k : ℕ) {w n : ℕ} → w ≡ k → kinds_in n ≡ kinds (want_at k).class → bits_at n 24 ≡ (want_at k).place → WantOf w n
-want-coded k e f g = rw e (record { class-kinds = f; which = g })
 
 -- three numbers are its kinds
 pub want-kinds : {w n a b : ℕ} {d : Option ℕ} → WantOf w n → a ≡ bits_at n 0 → b ≡ bits_at n 8 → d ≡ option_at n 16 → record { lo = a; hi = b; but = d } ≡ kinds (want_at w).class

@@ -348,6 +348,7 @@ pub fn entry_at(q: u32) -> Entry
 }
 
 // The table of wanted parts: from the lowest bits on, their kinds, from .. to .. but for one, and which of them it is.
+#[tactic(auto, unfolding(crate::specs::Rows::wants, tree::specs::Class::kinds))]
 fn want_code(w: u32) -> u64
     requires { w < want_count }
     ensures { WantOf w result }
@@ -413,6 +414,7 @@ pub fn place_wanted(w: u32) -> u32
 }
 
 // The table of marks: for each kind the wanted parts whose class it is of.
+#[tactic(auto, using(crate::proofs::Marking::marks_coded, crate::proofs::Marking::marks_beyond), unfolding(tree::specs::Class::kinds, tree::specs::Class::one_of, crate::specs::Rows::wants))]
 pub fn marks_of(k: u32) -> u64
     ensures { MarksOf k result }
 {

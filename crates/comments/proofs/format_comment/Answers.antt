@@ -1,6 +1,6 @@
 use Rattle.comments.specs.Comments.{comment}
 use Rattle.items.proofs.Laws.{unsaid}
-use Rattle.comments.proofs.Said.{same, keyed, erroneous}
+use Rattle.comments.proofs.Said.{same, keyed, erroneous, single-rest}
 use Rattle.comments.proofs.format_comment.Goals as goal
 
 pub returns-in-64 : goal.returns-in-64
@@ -21,11 +21,11 @@ returns-in-67 c = same (keyed 67 _ _ _ c.in-67.is) c.print_text-in-67.ensures
 
 pub returns-in-68 : goal.returns-in-68
 unfolding comment
-returns-in-68 c = same (keyed 68 _ _ _ c.in-68.is) c.print_hash.ensures
+returns-in-68 c = same (keyed 68 _ _ _ c.in-68.is) (single-rest _ _ c.behind.ensures c.print_single.ensures)
 
 pub returns-in-69 : goal.returns-in-69
 unfolding comment
-returns-in-69 c = same (keyed 69 _ _ _ c.in-69.is) c.print_slash.ensures
+returns-in-69 c = same (keyed 69 _ _ _ c.in-69.is) (single-rest _ _ c.behind-in-69.ensures c.print_single-in-69.ensures)
 
 pub returns-in_default : goal.returns-in_default
 returns-in_default c =

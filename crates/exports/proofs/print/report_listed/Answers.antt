@@ -3,10 +3,6 @@ use Rattle.exports.specs.Print.{number, values, values_listed}
 use Rattle.exports.proofs.Answers.{by_list_case}
 use Rattle.exports.proofs.print.report_listed.Goals as goal
 
-pub returns-in-Err : goal.returns-in-Err
-unfolding number values values_listed
-returns-in-Err c = search by_list_case
-
 pub returns-in-Ok : goal.returns-in-Ok
 unfolding number values values_listed
 returns-in-Ok c = by_list_case _ _ _ c.in-Ok.is (record { answered = refl; valued = refl; listed = refl })

@@ -1,14 +1,11 @@
 use borrow.Author.Rules.{rules}
-use Rattle.plan.proofs.Steps.{note-planned, note-below, carried-note}
+use Rattle.plan.proofs.Steps.{note-planned, carried-note}
 use Rattle.plan.proofs.Noted.{silent-planned}
 use Rattle.comments.specs.Place.{place}
 use Rattle.plan.proofs.Planner.plan_comment.Goals as goal
 
 pub returns-then-is_silent : goal.returns-then-is_silent
 returns-then-is_silent c = silent-planned _ _ _ c.kind_at-k.ensures c.text_at-s.ensures (c.is_silent.ensures _) c.if-is_silent.true
-
-pub add_numbered-requires : goal.add_numbered-requires
-add_numbered-requires c = note-below (place c.args.loc) _ c.note_kind.ensures
 
 pub returns : goal.returns
 returns c =

@@ -3,12 +3,6 @@ use native.Mathlib.Omega.{arith}
 use Rattle.plan.proofs.Steps.{always-planned, lines-planned, carried-always, carried-lines}
 use Rattle.plan.proofs.Planner.plan_if.Goals as goal
 
-pub add_numbered-requires : goal.add_numbered-requires
-add_numbered-requires c = omega arith
-
-pub add_numbered-requires-in-Lines : goal.add_numbered-requires-in-Lines
-add_numbered-requires-in-Lines c = omega arith
-
 pub returns-in-Always : goal.returns-in-Always
 returns-in-Always c = λ s. always-planned s c.args.t (search rules) (c.add_numbered.ensures s (carried-always s 0 (omega arith)))
 

@@ -1,11 +1,7 @@
-use native.Mathlib.Omega.{arith}
 use Rattle.plan.proofs.Steps.{carried-mark}
 use Rattle.items.specs.Item.{says, say, plain_item}
 use Rattle.plan.specs.Ops.{expand}
 use Rattle.plan.proofs.Planner.plan_mark.Goals as goal
-
-pub add_numbered-requires : goal.add_numbered-requires
-add_numbered-requires c = omega arith
 
 pub returns : goal.returns
 unfolding expand plain_item says say

@@ -1,12 +1,8 @@
 use borrow.Author.Rules.{rules}
-use native.Mathlib.Omega.{arith}
 use Rattle.plan.proofs.Steps.{carried-word}
 use Rattle.items.specs.Item.{says, say, lit, plain_item}
 use Rattle.plan.specs.Ops.{expand}
 use Rattle.plan.proofs.Planner.plan_word.Goals as goal
-
-pub add_numbered-requires : goal.add_numbered-requires
-add_numbered-requires c = omega arith
 
 pub returns : goal.returns
 unfolding expand plain_item says say lit

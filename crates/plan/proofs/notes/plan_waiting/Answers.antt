@@ -1,15 +1,8 @@
-use Rattle.children.proofs.Walks.{stretch_region}
 use Rattle.plan.proofs.Noted.{waiting-silent, waiting-planned}
 use Rattle.plan.proofs.notes.plan_waiting.Goals as goal
 
 pub returns-then-not-g : goal.returns-then-not-g
 returns-then-not-g c = search waiting-silent
-
-pub plan_all-requires : goal.plan_all-requires
-plan_all-requires c = stretch_region c.requires.first
-
-pub plan_all-requires-2 : goal.plan_all-requires-2
-plan_all-requires-2 c = stretch_region c.requires.second
 
 pub returns : goal.returns
 returns c = waiting-planned _ _ _ c.args.g _ c.kinds_of-w.ensures c.plan_all.ensures c.note_kinds-v.ensures c.plan_all-2.ensures

@@ -1,5 +1,4 @@
 use mathlib.Core.Path.{sym, ◌∙◌}
-use native.Mathlib.Omega.{arith}
 use Rattle.plan.proofs.Written.{token-op, word-op, note-op, plain_op, texted, noted, sized_as, fits_as}
 use Rattle.plan.proofs.write.count_op.Goals as goal
 
@@ -21,8 +20,8 @@ count_note-requires c = fits_as _ _ _ (note-op _ _ c.if-k-ge-NOTE_ABOVE.true ∙
 pub returns-then-k-ge-NOTE_ABOVE : goal.returns-then-k-ge-NOTE_ABOVE
 returns-then-k-ge-NOTE_ABOVE c = sized_as c.args.p (note-op _ _ c.if-k-ge-NOTE_ABOVE.true ∙ noted _ _ (sym c.place_of.ensures)) c.count_note.ensures
 
-pub count_plain-requires : goal.count_plain-requires
-count_plain-requires c = record { le_kind = omega (arith, c.if-k-eq-TOKEN.false, c.if-k-eq-WORD.false); kind_bound = omega (arith, c.if-k-ge-NOTE_ABOVE.false); p_value = fits_as _ _ _ (plain_op _ _ c.if-k-eq-TOKEN.false c.if-k-eq-WORD.false c.if-k-ge-NOTE_ABOVE.false) c.requires.p_value }
+pub count_plain-requires-clause-p_value : goal.count_plain-requires-clause-p_value
+count_plain-requires-clause-p_value c = fits_as _ _ _ (plain_op _ _ c.if-k-eq-TOKEN.false c.if-k-eq-WORD.false c.if-k-ge-NOTE_ABOVE.false) c.requires.p_value
 
 pub returns : goal.returns
 returns c = sized_as c.args.p (plain_op _ _ c.if-k-eq-TOKEN.false c.if-k-eq-WORD.false c.if-k-ge-NOTE_ABOVE.false) c.count_plain.ensures

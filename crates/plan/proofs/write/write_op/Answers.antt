@@ -1,16 +1,15 @@
 use mathlib.Core.Path.{sym, ◌∙◌}
-use native.Mathlib.Omega.{arith}
 use Rattle.plan.proofs.Written.{token-op, word-op, note-op, plain_op, texted, noted, puts_as, fits_as}
 use Rattle.plan.proofs.write.write_op.Goals as goal
 
-pub put_text-requires : goal.put_text-requires
-put_text-requires c = record { listed_value = c.requires.listed_value; p_value = fits_as _ _ _ (token-op _ _ c.if-k-eq-TOKEN.true ∙ texted (sym c.text_at.ensures)) c.requires.p_value }
+pub put_text-requires-clause-p_value : goal.put_text-requires-clause-p_value
+put_text-requires-clause-p_value c = fits_as _ _ _ (token-op _ _ c.if-k-eq-TOKEN.true ∙ texted (sym c.text_at.ensures)) c.requires.p_value
 
 pub returns-then-k-eq-TOKEN : goal.returns-then-k-eq-TOKEN
 returns-then-k-eq-TOKEN c = puts_as (token-op _ _ c.if-k-eq-TOKEN.true ∙ texted (sym c.text_at.ensures)) c.put_text.ensures
 
-pub put_text-requires-then-k-eq-WORD : goal.put_text-requires-then-k-eq-WORD
-put_text-requires-then-k-eq-WORD c = record { listed_value = c.requires.listed_value; p_value = fits_as _ _ _ (word-op _ _ c.if-k-eq-WORD.true ∙ texted (sym c.word_in.ensures)) c.requires.p_value }
+pub put_text-requires-then-k-eq-WORD-clause-p_value : goal.put_text-requires-then-k-eq-WORD-clause-p_value
+put_text-requires-then-k-eq-WORD-clause-p_value c = fits_as _ _ _ (word-op _ _ c.if-k-eq-WORD.true ∙ texted (sym c.word_in.ensures)) c.requires.p_value
 
 pub returns-then-k-eq-WORD : goal.returns-then-k-eq-WORD
 returns-then-k-eq-WORD c = puts_as (word-op _ _ c.if-k-eq-WORD.true ∙ texted (sym c.word_in.ensures)) c.put_text-then-k-eq-WORD.ensures
@@ -21,8 +20,8 @@ put_note-requires c = fits_as _ _ _ (note-op _ _ c.if-k-ge-NOTE_ABOVE.true ∙ n
 pub returns-then-k-ge-NOTE_ABOVE : goal.returns-then-k-ge-NOTE_ABOVE
 returns-then-k-ge-NOTE_ABOVE c = puts_as (note-op _ _ c.if-k-ge-NOTE_ABOVE.true ∙ noted _ _ (sym c.place_of.ensures)) c.put_note.ensures
 
-pub put_plain-requires : goal.put_plain-requires
-put_plain-requires c = record { listed_value = c.requires.listed_value; le_kind = omega (arith, c.if-k-eq-TOKEN.false, c.if-k-eq-WORD.false); kind_bound = omega (arith, c.if-k-ge-NOTE_ABOVE.false); p_value = fits_as _ _ _ (plain_op _ _ c.if-k-eq-TOKEN.false c.if-k-eq-WORD.false c.if-k-ge-NOTE_ABOVE.false) c.requires.p_value }
+pub put_plain-requires-clause-p_value : goal.put_plain-requires-clause-p_value
+put_plain-requires-clause-p_value c = fits_as _ _ _ (plain_op _ _ c.if-k-eq-TOKEN.false c.if-k-eq-WORD.false c.if-k-ge-NOTE_ABOVE.false) c.requires.p_value
 
 pub returns : goal.returns
 returns c = puts_as (plain_op _ _ c.if-k-eq-TOKEN.false c.if-k-eq-WORD.false c.if-k-ge-NOTE_ABOVE.false) c.put_plain.ensures

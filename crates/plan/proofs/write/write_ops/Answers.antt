@@ -1,23 +1,15 @@
 use mathlib.Core.List.{flatten}
 use mathlib.Core.Path.{refl}
 use Rattle.plan.specs.Words.{words}
-use Rattle.plan.proofs.Written.{writing_none, writing-fits, writing_more, writing_all}
+use Rattle.plan.proofs.Written.{writing_none, writing-fits, writing_more}
 use Rattle.plan.proofs.write.write_ops.Goals as goal
 
 pub loop-op-init : goal.loop-op-init
 unfolding words flatten
 loop-op-init c = (refl, writing_none _ _ _ _ _ c.no_size-p.ensures c.requires.false_value)
 
-pub write_op-p-requires : goal.write_op-p-requires
-unfolding words flatten
-write_op-p-requires c =
-    let r = writing-fits c.requires.n_in_bounds c.loop-op.invariant.1 c.loop-op-test.true in
-    record { all_value = c.loop-op.invariant.0; listed_value = r.0; p_value = r.1 }
+pub write_op-p-requires-clause-p_value : goal.write_op-p-requires-clause-p_value
+write_op-p-requires-clause-p_value c = (writing-fits c.requires.n_in_bounds c.loop-op.invariant.1 c.loop-op-test.true).1
 
 pub loop-op-preserved : goal.loop-op-preserved
-unfolding words flatten
 loop-op-preserved c = (c.loop-op.invariant.0, writing_more c.requires.n_in_bounds c.loop-op.invariant.1 c.loop-op-test.true c.write_op-p.ensures)
-
-pub returns : goal.returns
-unfolding words flatten
-returns c = writing_all c.requires.n_in_bounds c.loop-op.invariant.1 c.loop-op-test.false

@@ -2,12 +2,6 @@ use Rattle.plan.proofs.Laws.{◌▸◌}
 use Rattle.printer.specs.Lists.{close_arguments}
 use Rattle.printer.proofs.lists.close_arguments.Goals as goal
 
-pub plan_ending-requires : goal.plan_ending-requires
-plan_ending-requires c = c.requires.lies
-
-pub close_bracket-requires : goal.close_bracket-requires
-close_bracket-requires c = c.requires.bracket_lt_word_count
-
 pub returns : goal.returns
 unfolding close_arguments
 returns c =

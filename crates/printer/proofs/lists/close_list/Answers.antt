@@ -3,9 +3,6 @@ use Rattle.plan.specs.Words.{words}
 use Rattle.printer.specs.Lists.{close_list}
 use Rattle.printer.proofs.lists.close_list.Goals as goal
 
-pub close_bracket-requires : goal.close_bracket-requires
-close_bracket-requires c = c.requires.bracket_lt_word_count
-
 pub returns : goal.returns
 unfolding close_list words
 returns c =

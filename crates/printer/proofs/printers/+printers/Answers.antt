@@ -2,34 +2,29 @@ use borrow.Author.Rules.{rules}
 use mathlib.Core.Path.{◌∙◌, ap, refl, sym}
 use native.Mathlib.Omega.{arith}
 use Rattle.plan.proofs.Laws.{by, ◌▸◌, idle}
-use Rattle.printer.proofs.Walking.{survey-outlined, survey-foreign, outlined-whole, outlined-count, after-outlined, after-foreign, spans_as, walks-region, walks_less, walking-none, walking-more, walking-all_lem, unasked-lies, unasked-around, walking-first, stating-all, statements-over, statements-foreign, valuing-none, valuing-more, valuing-all, values-over, values-foreign}
+use Rattle.printer.proofs.Walking.{survey-outlined, survey-foreign, outlined-whole, outlined-count, after-outlined, after-foreign, spans_as, walks-region, walks_less, walking-more, walking-all_lem, unasked-lies, unasked-around, walking-first, stating-all, statements-over, statements-foreign, valuing-none, valuing-more, valuing-all, values-over, values-foreign}
 use Rattle.printer.proofs.Listing.{args-foreign, local-foreign, specs-foreign, around_is, comp-foreign, list-foreign}
 use Rattle.tree.proofs.Options.{lacking}
 use Rattle.tree.proofs.Yielding.{left-step, left-over}
 use Rattle.printer.proofs.Printed.{enclosed-reading, left_paren, right_paren, plans-args, plans-binds, left_brace, right_brace, spec_reading, plans-comp, comp-lacks, member_reading, plans-expr, list-reading, plans-empty, plans-list}
 use Rattle.printer.proofs.Readings.{within, walks-first, items-walk, walks-kid}
-use Rattle.printer.specs.Print.{local_of, element}
+use Rattle.printer.specs.Print.{element}
 use Rattle.items.specs.declared.Condition.TheVariants.{Always}
-use Rattle.printer.proofs.Rowing.{kid_falls, eaching-none, eaching-kid, eaching-more, eaching-all, class-tested, each-other, each-one, found_kid, number-found, number-none, piece-unasked, piece-asked_lem, piece-text, piece-signal, piece-each, piece-part, piece-plus, rowing-none, rowing_more, rowing-in, rowing-all}
+use Rattle.printer.proofs.Rowing.{kid_falls, eaching-none, eaching-kid, eaching-more, eaching-all, class-tested, each-other, each-one, found_kid, number-found, number-none, piece-unasked, piece-asked_lem, piece-text, piece-signal, piece-each, piece-part, piece-plus, rowing_more, rowing-all}
 use Rattle.printer.proofs.Under.{at-region, kid_at, kid-print}
 use Rattle.printer.proofs.Looking.{first-has, ends-has, bounded_as, none_has, want-has, plus-part}
 use Rattle.plan.specs.Words.{words}
-use Rattle.printer.specs.Rows.{tested}
-use Rattle.children.proofs.Uses.{child_is, lead-next}
+use Rattle.children.proofs.Uses.{child_is}
 use Rattle.printer.specs.Walked.{stated}
 use Rattle.printer.proofs.Single.{lone-there, lone_is, spec-kid, specs-none, specs-some, specs-walks}
-use Rattle.printer.proofs.Nodes.{rowed-rest, rowed-small, element-fits, node-token, node-own, node_row}
+use Rattle.printer.proofs.Nodes.{element-fits, node-token, node-own, node_row}
 use borrow.Author.Tests.{not-true, not-false}
 use Rattle.tree.specs.Answer.{found}
 use Rattle.printer.specs.Reads.{number_or}
-use Rattle.printer.proofs.Marking.{marks_for, marks_weak}
 use mathlib.Core.Bool.{not}
 use Rattle.printer.proofs.printers.+printers.Goals as goal
 
 -- ---- args
-
-pub args-survey-o-requires : goal.args-survey-o-requires
-args-survey-o-requires t c = c.enclosed-z.ensures.region
 
 pub args-returns-then-is_stopped : goal.args-returns-then-is_stopped
 args-returns-then-is_stopped t c = by (args-foreign _ (enclosed-reading _ _ _ _ c.enclosed-z.ensures ∙ survey-foreign _ c.kinds_of.ensures c.survey-o.ensures c.is_stopped.ensures c.if-is_stopped.true)) (c.stop_at.ensures.plans _)
@@ -37,16 +32,10 @@ args-returns-then-is_stopped t c = by (args-foreign _ (enclosed-reading _ _ _ _ 
 pub args-items-requires : goal.args-items-requires
 args-items-requires t c = (omega (arith, c.decreases), (within c.args.n.at c.enclosed-z.ensures, outlined-whole (survey-outlined _ c.kinds_of.ensures c.survey-o.ensures c.is_stopped.ensures c.if-is_stopped.false)))
 
-pub args-close_arguments-requires : goal.args-close_arguments-requires
-args-close_arguments-requires t c = record { bracket_lt_word_count = right_paren.known; lies = c.survey-o.ensures.outlines.lies }
-
 pub args-returns : goal.args-returns
 args-returns t c = plans-args _ (enclosed-reading _ _ _ _ c.enclosed-z.ensures) c.test_of-t.result (survey-outlined _ c.kinds_of.ensures c.survey-o.ensures c.is_stopped.ensures c.if-is_stopped.false) c.next_run-k.ensures c.test_of-t.ensures left_paren right_paren (c.open_list.ensures _) c.items.ensures c.close_arguments.ensures
 
 -- ---- binds
-
-pub binds-survey-o-requires : goal.binds-survey-o-requires
-binds-survey-o-requires t c = c.enclosed-z.ensures.region
 
 pub binds-returns-then-is_stopped : goal.binds-returns-then-is_stopped
 binds-returns-then-is_stopped t c = by (local-foreign _ (enclosed-reading _ _ _ _ c.enclosed-z.ensures ∙ survey-foreign _ c.kinds_of.ensures c.survey-o.ensures c.is_stopped.ensures c.if-is_stopped.true)) (c.stop_at.ensures.plans _)
@@ -56,34 +45,19 @@ binds-lone-requires t c =
     let x = (survey-outlined _ c.kinds_of.ensures c.survey-o.ensures c.is_stopped.ensures c.if-is_stopped.false) in
     (omega (arith, c.decreases), (within c.args.n.at c.enclosed-z.ensures, (outlined-whole x, outlined-count _ x c.if-o-eq1.true)))
 
-pub binds-returns-then-o-eq1 : goal.binds-returns-then-o-eq1
-binds-returns-then-o-eq1 t c = by (ap (local_of _) (enclosed-reading _ _ _ _ c.enclosed-z.ensures)) c.lone.ensures
-
 pub binds-items-requires : goal.binds-items-requires
 binds-items-requires t c = (omega (arith, c.decreases), (within c.args.n.at c.enclosed-z.ensures, outlined-whole (survey-outlined _ c.kinds_of.ensures c.survey-o.ensures c.is_stopped.ensures c.if-is_stopped.false)))
-
-pub binds-close_binds-requires : goal.binds-close_binds-requires
-binds-close_binds-requires t c = c.survey-o.ensures.outlines.lies
 
 pub binds-returns : goal.binds-returns
 binds-returns t c = plans-binds _ (enclosed-reading _ _ _ _ c.enclosed-z.ensures) Always (survey-outlined _ c.kinds_of.ensures c.survey-o.ensures c.is_stopped.ensures c.if-is_stopped.false) c.if-o-eq1.false (c.open_binds.ensures _) c.items.ensures c.close_binds.ensures
 
 -- ---- body
 
-pub body-survey_after-o-requires : goal.body-survey_after-o-requires
-body-survey_after-o-requires t c = record { region = c.spec_bounds-z.ensures.region; lies = c.requires.lies }
-
 pub body-returns-then-is_stopped : goal.body-returns-then-is_stopped
 body-returns-then-is_stopped t c = by (specs-foreign _ _ c.requires.outlined _ (spec_reading _ c.requires.outlined c.spec_bounds-z.ensures) (after-foreign _ c.kinds_of-w.ensures c.survey_after-o.ensures c.is_stopped.ensures c.if-is_stopped.true)) (c.stop_at.ensures.plans _)
 
-pub body-items-requires : goal.body-items-requires
-body-items-requires t c = (omega (arith, c.decreases), (c.requires.within, outlined-whole c.requires.outlined))
-
 pub body-specs-requires : goal.body-specs-requires
 body-specs-requires t c = (omega (arith, c.decreases), (within c.requires.within.at c.spec_bounds-z.ensures, (c.requires.lies, outlined-whole (after-outlined _ c.kinds_of-w.ensures c.survey_after-o.ensures c.is_stopped.ensures c.if-is_stopped.false))))
-
-pub body-close_list-requires : goal.body-close_list-requires
-body-close_list-requires t c = record { bracket_lt_word_count = right_brace.known; lies = c.survey_after-o.ensures.outlines.lies }
 
 pub body-returns : goal.body-returns
 body-returns t c =
@@ -108,9 +82,6 @@ comp-returns-then-is_none t c = by (comp-lacks _ _ _ _ c.first_of-spec.ensures (
 
 pub comp-bounds_between-y-requires : goal.comp-bounds_between-y-requires
 comp-bounds_between-y-requires t c = ends-has c.args.n.at c.start-a.ensures c.end.ensures (first-has _ _ c.first_of-brace.ensures) (first-has _ _ c.first_of-spec.ensures)
-
-pub comp-survey-m-requires : goal.comp-survey-m-requires
-comp-survey-m-requires t c = c.bounds_between-y.ensures.region
 
 pub comp-returns-then-is_stopped : goal.comp-returns-then-is_stopped
 comp-returns-then-is_stopped t c =
@@ -158,14 +129,8 @@ expr-bounds_between-y-requires t c = search (ends-has, none_has, first-has)
 pub expr-bounds_between-z-requires : goal.expr-bounds_between-z-requires
 expr-bounds_between-z-requires t c = search (ends-has, none_has, first-has)
 
-pub expr-stmts-requires : goal.expr-stmts-requires
-expr-stmts-requires t c = (omega (arith, c.decreases), within c.args.n.at (bounded_as _ c.start-a.ensures c.end-b.ensures refl refl c.bounds_between-y.ensures))
-
 pub expr-part-requires : goal.expr-part-requires
 expr-part-requires t c = (omega (arith, c.decreases), ((first-has _ _ c.first_of-base.ensures, omega arith)))
-
-pub expr-values-requires : goal.expr-values-requires
-expr-values-requires t c = (omega (arith, c.decreases), within c.args.n.at (bounded_as _ c.start-a.ensures c.end-b.ensures refl refl c.bounds_between-z.ensures))
 
 pub expr-returns : goal.expr-returns
 expr-returns t c = plans-expr _ _ _ c.first_of-base.ensures (bounded_as _ c.start-a.ensures c.end-b.ensures refl refl c.bounds_between-y.ensures) (bounded_as _ c.start-a.ensures c.end-b.ensures refl refl c.bounds_between-z.ensures) c.stmts.ensures c.part.ensures c.values.ensures
@@ -179,9 +144,6 @@ pub items-returns : goal.items-returns
 items-returns t c = by (items-walk _ _ _ _ (spans_as c.kinds_of-w.ensures c.gap-s.ensures) c.requires.whole) c.kids.ensures
 
 -- ---- kids
-
-pub kids-loop-z-init : goal.kids-loop-z-init
-kids-loop-z-init t c = search walking-none
 
 pub kids-gap-g-requires : goal.kids-gap-g-requires
 kids-gap-g-requires t c = search walks-region
@@ -200,30 +162,18 @@ kids-returns t c = search walking-all_lem
 
 -- ---- list
 
-pub list-survey-o-requires : goal.list-survey-o-requires
-list-survey-o-requires t c = c.enclosed-z.ensures.region
-
 pub list-returns-then-is_stopped : goal.list-returns-then-is_stopped
 list-returns-then-is_stopped t c =
     let r = list-reading _ c.args.l c.opener.ensures c.closer.ensures c.child_class-c.ensures c.enclosed-z.ensures in
     by (list-foreign _ _ _ _ (r ∙ survey-foreign _ c.kinds_of.ensures c.survey-o.ensures c.is_stopped.ensures c.if-is_stopped.true)) (c.stop_at.ensures.plans _)
-
-pub list-plan_word-requires : goal.list-plan_word-requires
-list-plan_word-requires t c = c.empty_word.ensures.known
 
 pub list-returns-then-is_empty : goal.list-returns-then-is_empty
 list-returns-then-is_empty t c =
     let r = list-reading _ c.args.l c.opener.ensures c.closer.ensures c.child_class-c.ensures c.enclosed-z.ensures in
     plans-empty _ _ _ _ r (survey-outlined _ c.kinds_of.ensures c.survey-o.ensures c.is_stopped.ensures c.if-is_stopped.false) c.is_empty.ensures c.if-is_empty.true c.empty_word.ensures (c.plan_word.ensures _)
 
-pub list-open_list-requires : goal.list-open_list-requires
-list-open_list-requires t c = c.open_word.ensures.known
-
 pub list-items-requires : goal.list-items-requires
 list-items-requires t c = (omega (arith, c.decreases), (within c.args.n.at c.enclosed-z.ensures, outlined-whole (survey-outlined _ c.kinds_of.ensures c.survey-o.ensures c.is_stopped.ensures c.if-is_stopped.false)))
-
-pub list-close_list-requires : goal.list-close_list-requires
-list-close_list-requires t c = record { bracket_lt_word_count = c.close_word.ensures.known; lies = c.survey-o.ensures.outlines.lies }
 
 pub list-returns : goal.list-returns
 list-returns t c =
@@ -238,12 +188,6 @@ unfolding words
 local-returns t c = c.binds.ensures ▸ c.plan_word.ensures _ ▸ c.plan_signal.ensures _
 
 -- ---- lone
-
-pub lone-gap-s-requires : goal.lone-gap-s-requires
-lone-gap-s-requires t c = c.requires.within.region
-
-pub lone-plan_waiting-requires : goal.lone-plan_waiting-requires
-lone-plan_waiting-requires t c = c.gap-s.ensures.lies
 
 pub lone-invariant_of-node : goal.lone-invariant_of-node
 lone-invariant_of-node t c = record { at = kid_at (walks-kid (walks-first _ c.requires.within (spans_as c.kinds_of-w.ensures c.gap-s.ensures)) (lone-there c.kinds_of-w.ensures c.gap-s.ensures c.requires.whole c.requires.one)) }
@@ -265,29 +209,8 @@ node-plan_token-requires t c = element-fits c.args.n.at
 pub node-returns-then-k-ge-FIRST_TOKEN : goal.node-returns-then-k-ge-FIRST_TOKEN
 node-returns-then-k-ge-FIRST_TOKEN t c = by (node-token c.args.n.at c.kind_at-k.ensures c.if-k-ge-FIRST_TOKEN.true) (c.plan_token.ensures _)
 
-pub node-expr-requires : goal.node-expr-requires
-node-expr-requires t c = omega (arith, c.decreases)
-
-pub node-list-requires : goal.node-list-requires
-node-list-requires t c = omega (arith, c.decreases)
-
-pub node-local-requires : goal.node-local-requires
-node-local-requires t c = omega (arith, c.decreases)
-
-pub node-comp-requires : goal.node-comp-requires
-node-comp-requires t c = omega (arith, c.decreases)
-
-pub node-list-requires-in-27 : goal.node-list-requires-in-27
-node-list-requires-in-27 t c = omega (arith, c.decreases)
-
-pub node-args-requires : goal.node-args-requires
-node-args-requires t c = omega (arith, c.decreases)
-
 pub node-plan_token-requires-in-56 : goal.node-plan_token-requires-in-56
 node-plan_token-requires-in-56 t c = element-fits c.args.n.at
-
-pub node-row-requires : goal.node-row-requires
-node-row-requires t c = (omega (arith, c.decreases), (rowed-small _ _ c.kind_at-k.ensures (rowed-rest _ c.if-k-ge-FIRST_TOKEN.false c.in_default.in_default-own.rest.0.0.0.0.0.0.1 c.in_default.in_default-own.rest.0.0.0.0.0.1 c.in_default.in_default-own.rest.0.0.0.0.1 c.in_default.in_default-own.rest.0.0.0.1 c.in_default.in_default-own.rest.0.0.1 c.in_default.in_default-own.rest.0.1 c.in_default.in_default-own.rest.1)))
 
 pub node-returns-in-2 : goal.node-returns-in-2
 unfolding element
@@ -318,18 +241,12 @@ unfolding element
 node-returns-in-56 t c = by (node-own c.args.n.at c.kind_at-k.ensures 56 c.in-56.is) (c.plan_token-in-56.ensures _)
 
 pub node-returns-in_default : goal.node-returns-in_default
-node-returns-in_default t c = by (node_row c.args.n.at c.kind_at-k.ensures (rowed-rest _ c.if-k-ge-FIRST_TOKEN.false c.in_default.in_default-own.rest.0.0.0.0.0.0.1 c.in_default.in_default-own.rest.0.0.0.0.0.1 c.in_default.in_default-own.rest.0.0.0.0.1 c.in_default.in_default-own.rest.0.0.0.1 c.in_default.in_default-own.rest.0.0.1 c.in_default.in_default-own.rest.0.1 c.in_default.in_default-own.rest.1)) c.row.ensures
+node-returns-in_default t c = by (node_row c.args.n.at c.kind_at-k.ensures (search rules)) c.row.ensures
 
 -- ---- one
 
-pub one-kinds_wanted-requires : goal.one-kinds_wanted-requires
-one-kinds_wanted-requires t c = c.requires.want
-
 pub one-returns-then-not-is : goal.one-returns-then-not-is
 one-returns-then-not-is t c = by (each-other _ _ _ _ _ (class-tested _ c.is.ensures c.kinds_wanted.ensures c.kind_at.ensures (not-true _ (ap not c.if-not-is.true)))) idle
-
-pub one-plan_optional-requires : goal.one-plan_optional-requires
-one-plan_optional-requires t c = c.requires.word
 
 pub one-invariant_of-node : goal.one-invariant_of-node
 one-invariant_of-node t c = record { at = kid_at c.requires.kid }
@@ -356,19 +273,8 @@ part-returns-in-None t c = by (number-none _ _ (ap found c.in-None.is)) (c.plan_
 
 -- ---- piece
 
-pub piece-entry_at-x-requires : goal.piece-entry_at-x-requires
-piece-entry_at-x-requires t c = c.requires.known
-
-pub piece-is_asked-requires : goal.piece-is_asked-requires
-piece-is_asked-requires t c =
-    let x = c.entry_at-x.ensures in
-    record { marks = marks_for c.requires.marks (λ e. ap tested (sym x.piece) ∙ sym x.tests ∙ e); test = x.tests; given = x.given; other = x.other; unless = x.unless }
-
 pub piece-returns-then-not-is_asked : goal.piece-returns-then-not-is_asked
 piece-returns-then-not-is_asked t c = by (piece-unasked _ _ _ _ _ c.entry_at-x.ensures c.is_asked.ensures (ap not c.if-not-is_asked.true)) idle
-
-pub piece-plan_word-requires : goal.piece-plan_word-requires
-piece-plan_word-requires t c = c.entry_at-x.ensures.word
 
 pub piece-returns-in-Text : goal.piece-returns-in-Text
 piece-returns-in-Text t c = by (piece-asked_lem _ _ _ _ _ c.entry_at-x.ensures c.is_asked.ensures (ap not c.if-not-is_asked.false) ∙ piece-text _ _ c.entry_at-x.result c.what_in.ensures c.in-Text.is) (c.plan_word.ensures _)
@@ -376,23 +282,14 @@ piece-returns-in-Text t c = by (piece-asked_lem _ _ _ _ _ c.entry_at-x.ensures c
 pub piece-returns-in-Signal : goal.piece-returns-in-Signal
 piece-returns-in-Signal t c = by (piece-asked_lem _ _ _ _ _ c.entry_at-x.ensures c.is_asked.ensures (ap not c.if-not-is_asked.false) ∙ piece-signal _ _ c.entry_at-x.result c.what_in.ensures c.in-Signal.is) (c.plan_signal.ensures _)
 
-pub piece-each-requires : goal.piece-each-requires
-piece-each-requires t c = (omega (arith, c.decreases), ((c.entry_at-x.ensures.want, c.entry_at-x.ensures.word)))
-
 pub piece-returns-in-Each : goal.piece-returns-in-Each
 piece-returns-in-Each t c = by (piece-asked_lem _ _ _ _ _ c.entry_at-x.ensures c.is_asked.ensures (ap not c.if-not-is_asked.false) ∙ piece-each _ _ c.entry_at-x.result c.what_in.ensures c.in-Each.is) c.each.ensures
-
-pub piece-wanted_part-f-requires : goal.piece-wanted_part-f-requires
-piece-wanted_part-f-requires t c = record { marks = marks_weak c.requires.marks; known = c.entry_at-x.ensures.want }
 
 pub piece-part-requires : goal.piece-part-requires
 piece-part-requires t c = (omega (arith, c.decreases), ((want-has _ _ c.wanted_part-f.ensures, c.entry_at-x.ensures.word)))
 
 pub piece-returns-in-Part : goal.piece-returns-in-Part
 piece-returns-in-Part t c = by (piece-asked_lem _ _ _ _ _ c.entry_at-x.ensures c.is_asked.ensures (ap not c.if-not-is_asked.false) ∙ piece-part _ _ c.entry_at-x.result c.what_in.ensures c.entry_at-x.ensures.settles c.in-Part.is ∙ ap (number_or _ _) (sym c.wanted_part-f.ensures)) c.part.ensures
-
-pub piece-plus_part-f-requires : goal.piece-plus_part-f-requires
-piece-plus_part-f-requires t c = record { marks = marks_weak c.requires.marks }
 
 pub piece-part-requires-in-Plus : goal.piece-part-requires-in-Plus
 piece-part-requires-in-Plus t c = (omega (arith, c.decreases), ((plus-part _ c.plus_part-f.ensures, c.entry_at-x.ensures.word)))
@@ -402,12 +299,6 @@ piece-returns-in-Plus t c = by (piece-asked_lem _ _ _ _ _ c.entry_at-x.ensures c
 
 -- ---- row
 
-pub row-loop-k-init : goal.row-loop-k-init
-row-loop-k-init t c = rowing-none c.row_of-e.ensures c.kind_at.ensures c.marks_in-m.ensures
-
-pub row-piece-requires : goal.row-piece-requires
-row-piece-requires t c = (omega (arith, c.decreases), (rowing-in c.loop-k.invariant c.loop-k-test.true))
-
 pub row-loop-k-preserved : goal.row-loop-k-preserved
 row-loop-k-preserved t c = rowing_more c.loop-k.invariant c.loop-k-test.true c.piece.ensures refl
 
@@ -416,14 +307,8 @@ row-returns t c = rowing-all c.loop-k.invariant c.loop-k-test.false
 
 -- ---- specs
 
-pub specs-lead-s-requires : goal.specs-lead-s-requires
-specs-lead-s-requires t c = c.requires.within.region
-
 pub specs-returns-then-not-at_child : goal.specs-returns-then-not-at_child
 specs-returns-then-not-at_child t c = by (specs-none c.kinds_of-w.ensures c.requires.within c.lead-s.ensures _ c.requires.whole _ _ _ c.at_child.ensures (not-true _ (ap not c.if-not-at_child.true))) idle
-
-pub specs-gap-g-requires : goal.specs-gap-g-requires
-specs-gap-g-requires t c = lead-next c.lead-s.ensures _ (child_is _ c.at_child.ensures (not-false _ (ap not c.if-not-at_child.false))) c.end_at.ensures
 
 pub specs-child-requires : goal.specs-child-requires
 specs-child-requires t c = (omega (arith, c.decreases), (spec-kid c.kinds_of-w.ensures c.requires.within c.lead-s.ensures (child_is _ c.at_child.ensures (not-false _ (ap not c.if-not-at_child.false))), (unasked-lies _ _ _ c.unasked-before.ensures c.requires.lies, c.gap-g.ensures.lies)))
@@ -459,9 +344,6 @@ stmts-returns-then-is_stopped t c = by (statements-foreign _ (survey-foreign _ c
 pub stmts-loop-z-init : goal.stmts-loop-z-init
 stmts-loop-z-init t c = walking-first _ c.requires c.kinds_of-w.ensures c.gap-s.ensures
 
-pub stmts-gap-g-requires : goal.stmts-gap-g-requires
-stmts-gap-g-requires t c = search walks-region
-
 pub stmts-stmt-requires : goal.stmts-stmt-requires
 stmts-stmt-requires t c =
     let w = c.loop-z.invariant.walks in
@@ -492,9 +374,6 @@ values-invariant_of-node t c = record { at = kid_at (walks-kid (c.loop-z.invaria
 
 pub values-node-requires : goal.values-node-requires
 values-node-requires t c = (kid_falls 0 (walks-kid (c.loop-z.invariant.walking c.requires).walks (child_is _ c.at_child.ensures c.loop-z-test.true)) (omega (arith, c.decreases)), tt {0})
-
-pub values-gap-s-requires-in-loop-z : goal.values-gap-s-requires-in-loop-z
-values-gap-s-requires-in-loop-z t c = walks-region (c.loop-z.invariant.walking c.requires).walks c.at_child.ensures c.loop-z-test.true c.end_at.ensures
 
 pub values-loop-z-smaller : goal.values-loop-z-smaller
 values-loop-z-smaller t c = walks_less (c.loop-z.invariant.walking c.requires).walks c.at_child.ensures c.loop-z-test.true c.end_at.ensures c.gap-s-in-loop-z.ensures

@@ -1,5 +1,4 @@
 use mathlib.Core.Path.{refl}
-use Rattle.text.proofs.Table.{no_arm}
 use mathlib.Core.List.{flatten}
 use Rattle.plan.specs.Words.{words}
 use Rattle.printer.specs.Layout.{rows}
@@ -586,7 +585,3 @@ returns-in-143 c = coded 143 c.in-143.is refl refl refl
 pub returns-in-144 : goal.returns-in-144
 unfolding rows words wants wanted what_of all_pieces flatten
 returns-in-144 c = coded 144 c.in-144.is refl refl refl
-
-pub returns-in_default : goal.returns-in_default
-unfolding rows words wants wanted what_of all_pieces flatten
-returns-in_default c = no_arm 145 c.requires c.in_default.in_default-own.rest

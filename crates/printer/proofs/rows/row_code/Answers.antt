@@ -1,5 +1,4 @@
 use mathlib.Core.Path.{refl}
-use Rattle.text.proofs.Table.{no_arm}
 use mathlib.Core.List.{flatten}
 use Rattle.printer.specs.Layout.{rows, pick}
 use Rattle.printer.specs.Rows.{all_pieces}
@@ -261,7 +260,3 @@ returns-in-62 c = rowed 62 c.in-62.is refl refl
 pub returns-in-63 : goal.returns-in-63
 unfolding rows pick all_pieces flatten
 returns-in-63 c = rowed 63 c.in-63.is refl refl
-
-pub returns-in_default : goal.returns-in_default
-unfolding rows pick all_pieces flatten
-returns-in_default c = no_arm 64 c.requires c.in_default.in_default-own.rest

@@ -1,4 +1,3 @@
-use Rattle.printer.proofs.Looking.{plus-found}
 use Rattle.printer.proofs.Marking.{plus-unmarked}
 use Rattle.printer.proofs.Under.{at-region}
 use Rattle.printer.proofs.node.Node.plus_part.Goals as goal
@@ -8,6 +7,3 @@ returns-then-not-is_marked c = search plus-unmarked
 
 pub plus_of-requires : goal.plus_of-requires
 plus_of-requires c = search at-region
-
-pub returns : goal.returns
-returns c = search plus-found

@@ -1,4 +1,4 @@
-use Rattle.printer.proofs.Looking.{last_found, or_found, first-has, last-part, or_has, ends-has, bounded_as}
+use Rattle.printer.proofs.Looking.{last_found, first-has, last-part, or_has, ends-has}
 use Rattle.printer.proofs.Under.{at-region}
 use Rattle.tree.proofs.Options.{either}
 use Rattle.printer.proofs.node.Node.spec_bounds.Goals as goal
@@ -11,6 +11,3 @@ bounds_between-requires c =
     ends-has c.args.self.at c.start-a.ensures c.end-b.ensures
     (or_has _ _ (either _ _ c.or-start.ensures) (last-part _ _ (last_found _ _ _ c.start-a.ensures c.end-b.ensures _ c.kinds_of.ensures c.last_of-last.ensures)) (first-has _ _ c.first_of.ensures))
     (first-has _ _ c.first_of-end.ensures)
-
-pub returns : goal.returns
-returns c = search (bounded_as, or_found, last_found, either)
