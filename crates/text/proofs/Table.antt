@@ -22,20 +22,3 @@ module _ {A : Type 0} (d : A) where
   -- what stands at k is f of k
   pub tabled-at : (n : ℕ) (f : ℕ → A) (k : ℕ) → k < n → get_or (tabled n f 0) k d ≡ f k
   tabled-at n f k h = rw zero-add at (tabled-from n f 0 k h)
-
--- ---- a match on the numbers of a table
-
--- q is none of the numbers below n
-abbrev pub NoneBelow : ℕ → ℕ → Type 0
-NoneBelow zero q = Unit
-NoneBelow (suc n) q = NoneBelow n q × (q ≡ n → ⊥)
-
-pub behind-all : (n q : ℕ) → NoneBelow n q → n ≤ q
-behind-all zero q h = omega arith
-behind-all (suc n) q h =
-    let d : q ≡ n → ⊥ = h.1 in
-    omega (arith, behind-all n q h.0)
-
--- a number below n is one of them
-pub no_arm : {A : Type 0} (n : ℕ) {q : ℕ} → q < n → NoneBelow n q → A
-no_arm n {q} h k = absurd (omega (arith, behind-all n q k))

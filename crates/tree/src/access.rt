@@ -124,7 +124,7 @@ impl<'a> Tree<'a> {
         ensures { found result ≡ number_of (last_of w (parts_from self.now.image self.now.index a b)) }
     {
         self.siblings(a, b)
-            .filter(|j| is(w, self.kind_at(j.0)))
+            .filter(|e| is(w, self.kind_at(e.0)))
             .last()
     }
 
