@@ -35,7 +35,7 @@ use Rattle.printer.specs.Rows.{want_at, what_of, what_in, piece_of, all_pieces, 
 use Rattle.printer.proofs.Seq.{Goes, goes_none, goes-more, goes-all, seq_assoc, none_first, none_last}
 use Rattle.printer.specs.Under.{At, Kid, under, parts_of, print_of}
 use Rattle.printer.specs.Reads.{number_or, Has}
-use Rattle.printer.proofs.Under.{size, kid_of, kid-found, kid-print, kid-less, at-region}
+use Rattle.printer.proofs.Under.{size, kid_at, kid_of, kid-found, kid-print, kid-less, at-region}
 use Rattle.printer.proofs.Readings.{part-number, behind_kid}
 
 -- ---- the pieces of a row in turn
@@ -125,9 +125,9 @@ module _ (pr : ℕ → Print) (ps : List Part) (x : Entry) {k : Code} (j : k ≡
 pub found_kid : {image index : List ℕ} {i : ℕ} (j : ℕ) {n : Option ℕ} → At image index i → Has (parts_of image index i) n → n ≡ some j → Kid image index i j
 found_kid j a h e = kid-found a (h.part j e)
 
--- a child has fewer elements under it, whatever the ranks
-pub kid_falls : {image index : List ℕ} {i j t : ℕ} (r : ℕ) → Kid image index i j → size index i * 6 + r ≡ t → size index j * 6 + 5 < t
-kid_falls r k e = omega (arith, kid-less k)
+-- the printer of a child may be called: it has fewer elements under it, and is one of the tree
+pub to_kid : {image index : List ℕ} {i j t : ℕ} → Kid image index i j → size index i * 6 ≡ t → (size index j * 6 + 5 < t) × At image index j
+to_kid k e = (omega (arith, kid-less k), kid_at k)
 
 -- it prints what the child with its number prints
 pub number-found : {image index : List ℕ} {i j : ℕ} (p : Print) {n : Option ℕ} → n ≡ some j → Kid image index i j → number_or (under image i) p n ≡ print_of image j

@@ -9,8 +9,8 @@ use Rattle.printer.proofs.Printed.{enclosed-reading, left_paren, right_paren, pl
 use Rattle.printer.proofs.Readings.{within, walks-first, items-walk, walks-kid}
 use Rattle.printer.specs.Print.{element}
 use Rattle.items.specs.declared.Condition.TheVariants.{Always}
-use Rattle.printer.proofs.Rowing.{kid_falls, eaching-none, eaching-kid, eaching-more, eaching-all, class-tested, each-other, each-one, found_kid, number-found, number-none, piece-unasked, piece-asked_lem, piece-text, piece-signal, piece-each, piece-part, piece-plus, rowing_more, rowing-all}
-use Rattle.printer.proofs.Under.{kid_at, kid-print}
+use Rattle.printer.proofs.Rowing.{to_kid, eaching-none, eaching-kid, eaching-more, eaching-all, class-tested, each-other, each-one, found_kid, number-found, number-none, piece-unasked, piece-asked_lem, piece-text, piece-signal, piece-each, piece-part, piece-plus, rowing_more, rowing-all}
+use Rattle.printer.proofs.Under.{kid-print}
 use Rattle.printer.proofs.Looking.{first-has, ends-has, bounded_as, none_has, want-has, plus-part}
 use Rattle.plan.specs.Words.{words}
 use Rattle.children.proofs.Uses.{child_is}
@@ -66,7 +66,7 @@ body-returns t c =
 -- ---- child
 
 pub child-node-requires : goal.child-node-requires
-child-node-requires t c = (kid_falls 0 c.requires.kid (omega (arith, c.decreases)), kid_at c.requires.kid)
+child-node-requires t c = to_kid c.requires.kid c.decreases
 
 pub child-returns : goal.child-returns
 child-returns t c = by (around_is _ _ _ _ _ _ _) (c.plan_above.ensures ▸ by (kid-print c.requires.kid) c.node.ensures ▸ c.plan_behind.ensures)
@@ -179,7 +179,7 @@ local-returns t c = c.binds.ensures ▸ c.plan_word.ensures _ ▸ c.plan_signal.
 pub lone-node-requires : goal.lone-node-requires
 lone-node-requires t c =
     let k = walks-kid (walks-first _ c.requires.within (spans_as c.kinds_of-w.ensures c.gap-s.ensures)) (lone-there c.kinds_of-w.ensures c.gap-s.ensures c.requires.whole c.requires.none_len) in
-    (kid_falls 0 k (omega (arith, c.decreases)), kid_at k)
+    to_kid k c.decreases
 
 pub lone-returns : goal.lone-returns
 unfolding words
@@ -235,7 +235,7 @@ pub one-returns-then-not-is : goal.one-returns-then-not-is
 one-returns-then-not-is t c = by (each-other _ _ _ _ _ (class-tested _ c.is.ensures c.kinds_wanted.ensures c.kind_at.ensures (not-true _ (ap not c.if-not-is.true)))) idle
 
 pub one-node-requires : goal.one-node-requires
-one-node-requires t c = (kid_falls 0 c.requires.kid (omega (arith, c.decreases)), kid_at c.requires.kid)
+one-node-requires t c = to_kid c.requires.kid c.decreases
 
 pub one-returns : goal.one-returns
 one-returns t c = each-one _ _ _ c.requires.word_lt_word_count c.requires.kid (class-tested _ c.is.ensures c.kinds_wanted.ensures c.kind_at.ensures (not-false _ (ap not c.if-not-is.false))) (c.plan_optional.ensures _) c.node.ensures (c.plan_end.ensures _)
@@ -245,7 +245,7 @@ one-returns t c = each-one _ _ _ c.requires.word_lt_word_count c.requires.kid (c
 pub part-node-requires : goal.part-node-requires
 part-node-requires t c =
     let k = found_kid _ c.requires.at c.requires.has (ap found c.in-Some.is) in
-    (kid_falls 0 k (omega (arith, c.decreases)), kid_at k)
+    to_kid k c.decreases
 
 pub part-returns-in-Some : goal.part-returns-in-Some
 part-returns-in-Some t c = by (number-found _ (ap found c.in-Some.is) (found_kid _ c.requires.at c.requires.has (ap found c.in-Some.is))) c.node.ensures
@@ -306,7 +306,7 @@ specs-returns t c =
 -- ---- stmt
 
 pub stmt-node-requires : goal.stmt-node-requires
-stmt-node-requires t c = (kid_falls 0 c.requires.kid (omega (arith, c.decreases)), kid_at c.requires.kid)
+stmt-node-requires t c = to_kid c.requires.kid c.decreases
 
 pub stmt-returns : goal.stmt-returns
 unfolding stated
@@ -351,7 +351,7 @@ values-loop-z-init t c = search valuing-none
 pub values-node-requires : goal.values-node-requires
 values-node-requires t c =
     let k = walks-kid (c.loop-z.invariant.walking c.requires).walks (child_is _ c.at_child.ensures c.loop-z-test.true) in
-    (kid_falls 0 k (omega (arith, c.decreases)), kid_at k)
+    to_kid k c.decreases
 
 pub values-loop-z-smaller : goal.values-loop-z-smaller
 values-loop-z-smaller t c = walks_less (c.loop-z.invariant.walking c.requires).walks c.at_child.ensures c.loop-z-test.true c.end_at.ensures c.gap-s-in-loop-z.ensures
