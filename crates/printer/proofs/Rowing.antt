@@ -125,9 +125,9 @@ module _ (pr : ℕ → Print) (ps : List Part) (x : Entry) {k : Code} (j : k ≡
 pub found_kid : {image index : List ℕ} {i : ℕ} (j : ℕ) {n : Option ℕ} → At image index i → Has (parts_of image index i) n → n ≡ some j → Kid image index i j
 found_kid j a h e = kid-found a (h.part j e)
 
--- a child has fewer elements under it, whatever the ranks
-pub kid_falls : {image index : List ℕ} {i j t : ℕ} (r : ℕ) → Kid image index i j → size index i * 6 + r ≡ t → size index j * 6 + 5 < t
-kid_falls r k e = omega (arith, kid-less k)
+-- the printer of a child may be called: the child has fewer elements under it
+pub kid_falls : {image index : List ℕ} {i j t : ℕ} → Kid image index i j → size index i * 6 ≡ t → size index j * 6 + 5 < t
+kid_falls k e = omega (arith, kid-less k)
 
 -- it prints what the child with its number prints
 pub number-found : {image index : List ℕ} {i j : ℕ} (p : Print) {n : Option ℕ} → n ≡ some j → Kid image index i j → number_or (under image i) p n ≡ print_of image j

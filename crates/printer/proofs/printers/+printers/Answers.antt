@@ -70,7 +70,7 @@ pub child-invariant_of-node : goal.child-invariant_of-node
 child-invariant_of-node t c = record { at = kid_at c.requires.kid }
 
 pub child-node-requires : goal.child-node-requires
-child-node-requires t c = (kid_falls 0 c.requires.kid (omega (arith, c.decreases)), tt {0})
+child-node-requires t c = (kid_falls c.requires.kid c.decreases, tt {0})
 
 pub child-returns : goal.child-returns
 child-returns t c = by (around_is _ _ _ _ _ _ _) (c.plan_above.ensures ▸ by (kid-print c.requires.kid) c.node.ensures ▸ c.plan_behind.ensures)
@@ -193,7 +193,7 @@ pub lone-invariant_of-node : goal.lone-invariant_of-node
 lone-invariant_of-node t c = record { at = kid_at (walks-kid (walks-first _ c.requires.within (spans_as c.kinds_of-w.ensures c.gap-s.ensures)) (lone-there c.kinds_of-w.ensures c.gap-s.ensures c.requires.whole c.requires.one)) }
 
 pub lone-node-requires : goal.lone-node-requires
-lone-node-requires t c = (kid_falls 0 (walks-kid (walks-first _ c.requires.within (spans_as c.kinds_of-w.ensures c.gap-s.ensures)) (lone-there c.kinds_of-w.ensures c.gap-s.ensures c.requires.whole c.requires.one)) (omega (arith, c.decreases)), tt {0})
+lone-node-requires t c = (kid_falls (walks-kid (walks-first _ c.requires.within (spans_as c.kinds_of-w.ensures c.gap-s.ensures)) (lone-there c.kinds_of-w.ensures c.gap-s.ensures c.requires.whole c.requires.one)) c.decreases, tt {0})
 
 pub lone-returns : goal.lone-returns
 unfolding words
@@ -252,7 +252,7 @@ pub one-invariant_of-node : goal.one-invariant_of-node
 one-invariant_of-node t c = record { at = kid_at c.requires.kid }
 
 pub one-node-requires : goal.one-node-requires
-one-node-requires t c = (kid_falls 0 c.requires.kid (omega (arith, c.decreases)), tt {0})
+one-node-requires t c = (kid_falls c.requires.kid c.decreases, tt {0})
 
 pub one-returns : goal.one-returns
 one-returns t c = each-one _ _ _ c.requires.word c.requires.kid (class-tested _ c.is.ensures c.kinds_wanted.ensures c.kind_at.ensures (not-false _ (ap not c.if-not-is.false))) (c.plan_optional.ensures _) c.node.ensures (c.plan_end.ensures _)
@@ -263,7 +263,7 @@ pub part-invariant_of-node : goal.part-invariant_of-node
 part-invariant_of-node t c = record { at = kid_at (found_kid _ c.args.n.at c.requires.has (ap found c.in-Some.is)) }
 
 pub part-node-requires : goal.part-node-requires
-part-node-requires t c = (kid_falls 0 (found_kid _ c.args.n.at c.requires.has (ap found c.in-Some.is)) (omega (arith, c.decreases)), tt {0})
+part-node-requires t c = (kid_falls (found_kid _ c.args.n.at c.requires.has (ap found c.in-Some.is)) c.decreases, tt {0})
 
 pub part-returns-in-Some : goal.part-returns-in-Some
 part-returns-in-Some t c = by (number-found _ (ap found c.in-Some.is) (found_kid _ c.args.n.at c.requires.has (ap found c.in-Some.is))) c.node.ensures
@@ -327,7 +327,7 @@ pub stmt-invariant_of-node : goal.stmt-invariant_of-node
 stmt-invariant_of-node t c = record { at = kid_at c.requires.kid }
 
 pub stmt-node-requires : goal.stmt-node-requires
-stmt-node-requires t c = (kid_falls 0 c.requires.kid (omega (arith, c.decreases)), tt {0})
+stmt-node-requires t c = (kid_falls c.requires.kid c.decreases, tt {0})
 
 pub stmt-returns : goal.stmt-returns
 unfolding stated
@@ -373,7 +373,7 @@ pub values-invariant_of-node : goal.values-invariant_of-node
 values-invariant_of-node t c = record { at = kid_at (walks-kid (c.loop-z.invariant.walking c.requires).walks (child_is _ c.at_child.ensures c.loop-z-test.true)) }
 
 pub values-node-requires : goal.values-node-requires
-values-node-requires t c = (kid_falls 0 (walks-kid (c.loop-z.invariant.walking c.requires).walks (child_is _ c.at_child.ensures c.loop-z-test.true)) (omega (arith, c.decreases)), tt {0})
+values-node-requires t c = (kid_falls (walks-kid (c.loop-z.invariant.walking c.requires).walks (child_is _ c.at_child.ensures c.loop-z-test.true)) c.decreases, tt {0})
 
 pub values-loop-z-smaller : goal.values-loop-z-smaller
 values-loop-z-smaller t c = walks_less (c.loop-z.invariant.walking c.requires).walks c.at_child.ensures c.loop-z-test.true c.end_at.ensures c.gap-s-in-loop-z.ensures
