@@ -13,8 +13,8 @@ const LONG: usize = 3;
 
 // What stands behind the first n fields.
 pub fn behind_fields(s: &[u8], n: usize) -> &[u8]
-    ensures result_value { result.now ≡ behind_fields n s.now }
-    ensures result_in_bounds { length result.now ≤ length s.now - n }
+    ensures value { result.now ≡ behind_fields n s.now }
+    ensures shorter { length result.now ≤ length s.now - n }
 {
     let mut rest = s;
     for _ in 0..n {
@@ -42,8 +42,8 @@ pub struct Cases<'a> {
 impl<'a> Cases<'a> {
     pub fn of(s: &'a [u8], fields: usize) -> Self
         requires { 0 < fields }
-        ensures rest_value { result.rest.now ≡ s.now }
-        ensures fields_value { result.fields ≡ fields }
+        ensures rest { result.rest.now ≡ s.now }
+        ensures fields { result.fields ≡ fields }
     {
         Cases { rest: s, fields }
     }
@@ -75,8 +75,8 @@ pub fn long_field(s: &[u8]) -> &[u8]
 
 // What stands behind such a field.
 pub fn behind_long_field(s: &[u8]) -> &[u8]
-    ensures result_value { result.now ≡ behind_long_field s.now }
-    ensures result_in_bounds { length result.now ≤ length s.now - 3 }
+    ensures value { result.now ≡ behind_long_field s.now }
+    ensures shorter { length result.now ≤ length s.now - 3 }
 {
     behind(s, LONG + number24(s) as usize)
 }

@@ -19,16 +19,16 @@ pub fn word(t: &[u32], at: usize) -> u32
 
 // The first n bytes, or all of them if there are fewer.
 pub fn front(s: &[u8], n: usize) -> &[u8]
-    ensures result_value { result.now ≡ take n s.now }
-    ensures result_len { length result.now ≡ min n (length s.now) }
+    ensures value { result.now ≡ take n s.now }
+    ensures len { length result.now ≡ min n (length s.now) }
 {
     s.get(..n).unwrap_or(s)
 }
 
 // What stands behind the first n bytes.
 pub fn behind(s: &[u8], n: usize) -> &[u8]
-    ensures result_value { result.now ≡ drop n s.now }
-    ensures result_len { length result.now ≡ length s.now - n }
+    ensures value { result.now ≡ drop n s.now }
+    ensures len { length result.now ≡ length s.now - n }
 {
     s.get(n..).unwrap_or(&s[..0])
 }

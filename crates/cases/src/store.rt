@@ -57,8 +57,8 @@ fn read_full<F: Read>(file: &mut F, buffer: &mut [u8]) -> Result<usize>
 // Reads a file into a buffer, as far as there is room, and says how many bytes that are. Which bytes no contract can say, nor what a read
 // leaves behind them.
 pub fn load<R: Files, P: AsPath>(rt: &R, path: P, buffer: &mut [u8]) -> Result<usize>
-    ensures upper_bound { IfOk result (λ n. n ≤ length buffer.new) }
-    ensures buffer_len_unchanged { length buffer.new ≡ length buffer.old }
+    ensures within { IfOk result (λ n. n ≤ length buffer.new) }
+    ensures same_len { length buffer.new ≡ length buffer.old }
 {
     let mut file = fs::open(rt, path)?;
     read_full(&mut file, buffer)

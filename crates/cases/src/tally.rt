@@ -27,16 +27,16 @@ pub fn line(rt: &impl Print, label: &[u8], n: u64) -> Result<()> {
 impl Agreement {
     // Before the first answer.
     pub fn none() -> Self
-        ensures seen_value { result.seen ≡ 0 }
-        ensures right_value { result.right ≡ 0 }
+        ensures seen { result.seen ≡ 0 }
+        ensures right { result.right ≡ 0 }
     {
         Agreement { seen: 0, right: 0 }
     }
 
     // One answer more.
     pub fn with(self, agrees: bool) -> Self
-        ensures seen_value { result.seen ≡ more_if self.seen true }
-        ensures right_value { result.right ≡ more_if self.right agrees }
+        ensures seen { result.seen ≡ more_if self.seen true }
+        ensures right { result.right ≡ more_if self.right agrees }
     {
         Agreement {
             seen: more(self.seen, true),

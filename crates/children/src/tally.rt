@@ -29,8 +29,8 @@ impl Tally {
     // One element more, of kind k and with f line feeds, 0 if it is no whitespace: before the cut, if the cut goes on with it, else
     // behind. What is neither trivia nor a custom error counts nothing.
     pub(crate) fn with(self, k: u32, f: usize, follows: bool) -> Self
-        requires f_bound { self.before + self.back + f + 2 < 2 ^ 64 }
-        requires f_value { (k ≡ 64 → ⊥) → f ≡ 0 }
+        requires fits { self.before + self.back + f + 2 < 2 ^ 64 }
+        requires space { (k ≡ 64 → ⊥) → f ≡ 0 }
         ensures { result ≡ counted follows k f self }
     {
         let error = is_error(k);

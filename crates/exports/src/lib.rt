@@ -80,9 +80,9 @@ struct Verdict(u32, u32, u32);
 
 #[tactic(auto, unfolding(crate::specs::Refusal::number, crate::specs::Refusal::first_value, crate::specs::Refusal::second_value))]
 fn say(t: Result<Accepted, Refusal>) -> Verdict
-    ensures result_value { result.0 ≡ number (said t) }
-    ensures result_value_2 { result.1 ≡ first_value (said t) }
-    ensures result_value_3 { result.2 ≡ second_value (said t) }
+    ensures number { result.0 ≡ number (said t) }
+    ensures first { result.1 ≡ first_value (said t) }
+    ensures second { result.2 ≡ second_value (said t) }
 {
     match t {
         Err(r) => Verdict(u32::from(r.reason), r.element.0, 0),

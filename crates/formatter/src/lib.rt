@@ -29,10 +29,10 @@ pub fn print_items(
     records: &mut [u32],
     texts: &mut [u8],
 ) -> Result<Count, Refusal>
-    ensures result_value { reply result ≡ answer_in image mode records texts none }
+    ensures value { reply result ≡ answer_in image mode records texts none }
     ensures records_after { records.new ≡ records_in image mode records texts none }
     ensures texts_after { texts.new ≡ texts_in image mode records texts none }
-    ensures answered_in { AnsweredIn image mode records texts (reply result) }
+    ensures answered { AnsweredIn image mode records texts (reply result) }
 {
     let mut unasked = [0u8; 0];
     let mut buffers = Buffers::new(records, texts, &mut unasked);
@@ -52,11 +52,11 @@ pub fn list_items(
     texts: &mut [u8],
     listing: &mut [u8],
 ) -> Result<Listed, Refusal>
-    ensures result_value { reply_listed result ≡ answer_in image mode records texts (listed listing) }
+    ensures value { reply_listed result ≡ answer_in image mode records texts (listed listing) }
     ensures records_after { records.new ≡ records_in image mode records texts (listed listing) }
     ensures texts_after { texts.new ≡ texts_in image mode records texts (listed listing) }
     ensures listing_after { listing.new ≡ listing_in image mode records texts listing }
-    ensures answered_in { AnsweredIn image mode records texts (reply_listed result) }
+    ensures answered { AnsweredIn image mode records texts (reply_listed result) }
 {
     let mut buffers = Buffers::new(records, texts, listing);
     let wanted = Wanted { mode, listed: true };

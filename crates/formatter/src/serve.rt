@@ -125,8 +125,8 @@ fn attempt_sized(
     wanted: Wanted,
     size: usize,
 ) -> Option<Result<Listed, Refusal>>
-    requires image_value { refusal image.now ≡ none }
-    requires le_size { 1 ≤ size }
+    requires passed { refusal image.now ≡ none }
+    requires positive { 1 ≤ size }
     ensures { TriedIn size image buffers wanted result }
 {
     if size < LIKELY * (element_count(image) as usize) {
@@ -147,7 +147,7 @@ fn attempt<const OPERATIONS: usize, const INDEX: usize>(
     buffers: &mut Buffers,
     wanted: Wanted,
 ) -> Option<Result<Listed, Refusal>>
-    requires lay { OPERATIONS + INDEX < 2 ^ 61 }
+    requires small { OPERATIONS + INDEX < 2 ^ 61 }
     requires ready { Ready image.now INDEX }
     ensures { AttemptedIn OPERATIONS image buffers wanted result }
 {

@@ -143,8 +143,8 @@ fn text_entry(at: u32, bytes: usize) -> Entry
 
 // The record of an item without a text, by its kind and its number.
 fn plain_entry(kind: u32, n: u32) -> Entry
-    requires le_kind { 2 ≤ kind }
-    requires kind_bound { kind ≤ 18 }
+    requires kind_from { 2 ≤ kind }
+    requires kind_to { kind ≤ 18 }
     ensures { result ≡ entry_of 0 (plain_item kind n) }
 {
     if kind == IF_LINES {
@@ -231,8 +231,8 @@ fn line_if(listed: bool, n: u32, kind: u32, first: u32, second: u32) -> u64
 // the size; no line is counted, so records are not listed. This and `put_plain` are no methods of `Output`, whose size may be none: where all
 // numbers fit, nothing is ever full.
 pub fn put_text(records: &mut [u32], texts: &mut [u8], s: &[u8], p: Size) -> Size
-    requires listed_value { p.listed ≡ false }
-    requires p_value { all_fit (text s.now ∷ []) p ≡ true }
+    requires unlisted { p.listed ≡ false }
+    requires fits { all_fit (text s.now ∷ []) p ≡ true }
     ensures { PutsIn records texts p result (text s.now ∷ []) }
 {
     put_bytes(texts, p.texts as usize, s);
@@ -241,10 +241,10 @@ pub fn put_text(records: &mut [u32], texts: &mut [u8], s: &[u8], p: Size) -> Siz
 
 // Puts an item without a text, by its kind and its number. Its numbers must fit, and no line is counted.
 pub fn put_plain(records: &mut [u32], texts: &mut [u8], kind: u32, n: u32, p: Size) -> Size
-    requires listed_value { p.listed ≡ false }
-    requires le_kind { 2 ≤ kind }
-    requires kind_bound { kind ≤ 18 }
-    requires p_value { all_fit (plain_item kind n ∷ []) p ≡ true }
+    requires unlisted { p.listed ≡ false }
+    requires kind_from { 2 ≤ kind }
+    requires kind_to { kind ≤ 18 }
+    requires fits { all_fit (plain_item kind n ∷ []) p ≡ true }
     ensures { PutsIn records texts p result (plain_item kind n ∷ []) }
 {
     put_entry(records, p, plain_entry(kind, n), 0)
@@ -263,9 +263,9 @@ pub fn count_text(s: &[u8], mut p: Size) -> Size
 
 // The size after an item without a text. Its numbers must fit.
 pub fn count_plain(kind: u32, n: u32, mut p: Size) -> Size
-    requires le_kind { 2 ≤ kind }
-    requires kind_bound { kind ≤ 18 }
-    requires p_value { all_fit (plain_item kind n ∷ []) p ≡ true }
+    requires kind_from { 2 ≤ kind }
+    requires kind_to { kind ≤ 18 }
+    requires fits { all_fit (plain_item kind n ∷ []) p ≡ true }
     ensures { result ≡ sized (plain_item kind n ∷ []) p }
 {
     let e = plain_entry(kind, n);

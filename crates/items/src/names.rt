@@ -75,8 +75,8 @@ fn joined(t: Table) -> &'static [u8]
 
 // Stores the name with a number from a place on, as far as there is room.
 pub fn put_name(buf: &mut [u8], at: usize, t: Table, w: u32)
-    requires w_in_bounds { w < length (names_of t) }
-    requires w_bound { at + length (ascii (name_at t w)) < 2 ^ 64 }
+    requires known { w < length (names_of t) }
+    requires room { at + length (ascii (name_at t w)) < 2 ^ 64 }
     ensures { buf.new ≡ store buf.old at (ascii (name_at t w)) }
 {
     let start = start_of(t, w);

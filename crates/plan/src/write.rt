@@ -51,9 +51,9 @@ fn write_op(
     op: u32,
     p: Size,
 ) -> Size
-    requires all_value { all.now ≡ joined_words words }
-    requires listed_value { p.listed ≡ false }
-    requires p_value { all_fit (op_items tree.now op) p ≡ true }
+    requires joined { all.now ≡ joined_words words }
+    requires unlisted { p.listed ≡ false }
+    requires fits { all_fit (op_items tree.now op) p ≡ true }
     ensures { PutsIn records texts p result (op_items tree.now op) }
 {
     let k = op % KINDS;
@@ -72,8 +72,8 @@ fn write_op(
 
 // Writes the first n operations of a plan, as far as there is room. All numbers must fit.
 pub fn write_ops(records: &mut [u32], texts: &mut [u8], tree: &Tree, ops: &[u32], n: usize) -> Size
-    requires n_in_bounds { n ≤ length ops.now }
-    requires false_value { all_fit (decoded tree.now ops.now n) (no_size false) ≡ true }
+    requires within { n ≤ length ops.now }
+    requires fits { all_fit (decoded tree.now ops.now n) (no_size false) ≡ true }
     ensures { PutsIn records texts (no_size false) result (decoded tree.now ops.now n) }
 {
     let all: &[u8] = &ALL;
@@ -96,8 +96,8 @@ fn count_note(tree: &Tree, t: u32, loc: CommentLocation, p: Size) -> Size
 
 // The size after an operation; the formatter's own texts are lent. Counted by itself, since writing into no buffers takes longer.
 fn count_op(tree: &Tree, all: &[u8], op: u32, p: Size) -> Size
-    requires all_value { all.now ≡ joined_words words }
-    requires p_value { all_fit (op_items tree.now op) p ≡ true }
+    requires joined { all.now ≡ joined_words words }
+    requires fits { all_fit (op_items tree.now op) p ≡ true }
     ensures { result ≡ sized (op_items tree.now op) p }
 {
     let k = op % KINDS;
@@ -117,8 +117,8 @@ fn count_op(tree: &Tree, all: &[u8], op: u32, p: Size) -> Size
 // The size of the first n operations of a plan, with their lines where they are listed. All numbers must fit. The loop of `write_ops` calls
 // another function with two more slices, and so does not take this one's place.
 pub fn count_ops(tree: &Tree, ops: &[u32], n: usize, listed: bool) -> Size
-    requires n_in_bounds { n ≤ length ops.now }
-    requires listed_value { all_fit (decoded tree.now ops.now n) (no_size listed) ≡ true }
+    requires within { n ≤ length ops.now }
+    requires fits { all_fit (decoded tree.now ops.now n) (no_size listed) ≡ true }
     ensures { result ≡ sized (decoded tree.now ops.now n) (no_size listed) }
 {
     let all: &[u8] = &ALL;

@@ -230,7 +230,7 @@ fn close_bracket(planner: &mut Planner, bracket: u32, k: Run)
 
 // Closes a list made by with_indent_eoi, behind its inner group.
 pub fn close_list(planner: &mut Planner, tree: &Tree, bracket: u32, k: Run, o: Outline)
-    requires bracket_lt_word_count { bracket < word_count }
+    requires word { bracket < word_count }
     requires lies { Lies tree.now.image tree.now.index o.last }
     ensures { PlansIn planner tree (close_list (word_at bracket) k.0 (ending_in tree o)) }
 {
@@ -245,7 +245,7 @@ pub fn close_list(planner: &mut Planner, tree: &Tree, bracket: u32, k: Run, o: O
 
 // Closes a list of arguments.
 pub fn close_arguments(planner: &mut Planner, tree: &Tree, bracket: u32, k: Run, o: Outline)
-    requires bracket_lt_word_count { bracket < word_count }
+    requires word { bracket < word_count }
     requires lies { Lies tree.now.image tree.now.index o.last }
     ensures { PlansIn planner tree (close_arguments (word_at bracket) k.0 (ending_in tree o)) }
 {

@@ -76,8 +76,8 @@ fn starts_right(image: &[u8]) -> bool
 // No element offends. Asked of an image that passed the tests 1 and 2.
 #[tactic(auto, using(crate::proofs::Passing::measures))]
 pub(crate) fn is_clean(image: &[u8]) -> bool
-    requires image_value { wrong_length image.now ≡ false }
-    requires image_value_2 { out_of_limits image.now ≡ false }
+    requires length { wrong_length image.now ≡ false }
+    requires limits { out_of_limits image.now ≡ false }
     ensures { result ≡ true → refusal image.now ≡ none }
 {
     if !starts_right(image) {

@@ -21,9 +21,9 @@ fn put_entry(table: &mut [u32], i: u32, kind: u32, end: u32, start: u32)
 // Where the subtree of element i ends: jumps over the subtrees behind it that are deeper. Each subtree is jumped over
 // once in all, since the element that jumped over it is met first from then on.
 fn find_end(image: &[u8], table: &[u32], n: u32, i: u32) -> u32
-    requires n_value { n ≡ count_n image.now }
-    requires n_in_bounds { 8 + 8 * n ≤ length image.now }
-    requires i_lt_n { i < n }
+    requires count { n ≡ count_n image.now }
+    requires headers { 8 + 8 * n ≤ length image.now }
+    requires within { i < n }
     requires indexed_from { IndexedFrom image.now table.now (i + 1) }
     ensures { result ≡ end_in image.now i }
 {

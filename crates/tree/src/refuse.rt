@@ -252,8 +252,8 @@ fn ident_under(image: &[u8], name: u16, i: u32) -> bool
 // No direct child of element i is an identifier. Walks the subtree of i at most: the walks for all Names take no
 // more than a step for each element and each level, of which there are 200 after test 4.
 fn lacks_ident(image: &[u8], i: u32) -> bool
-    requires i_bound { i < count_n image.now }
-    requires image_in_bounds { 8 + 8 * count_n image.now ≤ length image.now }
+    requires within { i < count_n image.now }
+    requires headers { 8 + 8 * count_n image.now ≤ length image.now }
     ensures { result ≡ no_ident (suc (level_in image.now i)) (drop (i + 1) (elements_of image.now)) }
 {
     let n = read::count_in(image);
@@ -271,8 +271,8 @@ fn lacks_ident(image: &[u8], i: u32) -> bool
 
 // Element i is a Name without an identifier.
 pub(crate) fn nameless_at(image: &[u8], i: u32) -> bool
-    requires i_bound { i < count_n image.now }
-    requires image_in_bounds { 8 + 8 * count_n image.now ≤ length image.now }
+    requires within { i < count_n image.now }
+    requires headers { 8 + 8 * count_n image.now ≤ length image.now }
     ensures { result ≡ nameless_in image.now i }
 {
     if read::kind_in(image, i) != kind::NAME {

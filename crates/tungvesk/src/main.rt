@@ -16,7 +16,7 @@ const ROOM: usize = 65_536;
 // Reads once, behind the first bytes of a buffer, which stay, and says how many bytes were read. None is the end of the input.
 fn read_more<R: Read>(input: &mut R, buffer: &mut [u8], at: usize) -> Result<usize>
     requires { at ≤ length buffer.old }
-    ensures result_in_bounds { IfOk result (λ n. at + n ≤ length buffer.old) }
+    ensures in_bounds { IfOk result (λ n. at + n ≤ length buffer.old) }
     ensures buffer_unchanged { take at buffer.new ≡ take at buffer.old }
     ensures bytes { IfOk result (λ n. Consumes (R.remaining input.old) (R.remaining input.new) (take n (drop at buffer.new))) }
     ensures end { IfOk result (λ n. n ≡ 0 → at < length buffer.old → IsAtEnd (R.remaining input.new)) }

@@ -10,4 +10,4 @@ returns c =
     let n = h.lent.texts in
     let o = h.lent.listing in
     let r = stated-list h.served (listed-reply _) (search rules) (search rules) refl (search rules) in
-    record { result_value = r.0; records_after = r.1.0; texts_after = r.1.1.0; listing_after = r.1.1.1.0; answered_in = r.1.1.1.1 }
+    record { value = r.0; records_after = r.1.0; texts_after = r.1.1.0; listing_after = r.1.1.1.0; answered = r.1.1.1.1 }

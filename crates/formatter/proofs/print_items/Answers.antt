@@ -11,7 +11,7 @@ returns c =
     let m = h.lent.records in
     let n = h.lent.texts in
     let r = stated h.served (ap (reply_to false) (sym c.in_ok-done.was)) (search rules) (search rules) refl in
-    record { result_value = r.0; records_after = r.1.0; texts_after = r.1.1.0; answered_in = r.1.1.1 }
+    record { value = r.0; records_after = r.1.0; texts_after = r.1.1.0; answered = r.1.1.1 }
 
 pub returns-in_err-done : goal.returns-in_err-done
 returns-in_err-done c =
@@ -19,4 +19,4 @@ returns-in_err-done c =
     let m = h.lent.records in
     let n = h.lent.texts in
     let r = stated h.served (unlisted-refused _ _ _ c.in_err-done.was c.from_residual.ensures.1) (search rules) (search rules) refl in
-    record { result_value = r.0; records_after = r.1.0; texts_after = r.1.1.0; answered_in = r.1.1.1 }
+    record { value = r.0; records_after = r.1.0; texts_after = r.1.1.0; answered = r.1.1.1 }

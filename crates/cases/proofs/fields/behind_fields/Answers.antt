@@ -5,4 +5,4 @@ pub loop-init : goal.loop-init
 loop-init c = passed_none _ _
 
 pub loop-preserved : goal.loop-preserved
-loop-preserved c = passed-more c.loop.invariant c.loop-test.true c.number.ensures c.behind-rest.ensures.result_value
+loop-preserved c = passed-more c.loop.invariant c.loop-test.true c.number.ensures c.behind-rest.ensures.value

@@ -9,11 +9,11 @@ loop-j-init c = search leading-none
 pub returns-in-Break : goal.returns-in-Break
 returns-in-Break c = search leading-stop
 
-pub with-tally-requires-clause-f_bound : goal.with-tally-requires-clause-f_bound
-with-tally-requires-clause-f_bound c = omega (arith, leading-fits c.loop-j.invariant c.loop-j-test.true _ c.space_of-f.ensures, c.well_formed)
+pub with-tally-requires-clause-fits : goal.with-tally-requires-clause-fits
+with-tally-requires-clause-fits c = omega (arith, leading-fits c.loop-j.invariant c.loop-j-test.true _ c.space_of-f.ensures, c.well_formed)
 
-pub with-tally-requires-clause-f_value : goal.with-tally-requires-clause-f_value
-with-tally-requires-clause-f_value c = space-none _ _ _ _ _ c.space_of-f.ensures c.kind_at.ensures
+pub with-tally-requires-clause-space : goal.with-tally-requires-clause-space
+with-tally-requires-clause-space c = space-none _ _ _ _ _ c.space_of-f.ensures c.kind_at.ensures
 
 pub loop-j-preserved : goal.loop-j-preserved
 loop-j-preserved c = search leading-more

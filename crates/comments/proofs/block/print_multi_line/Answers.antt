@@ -12,13 +12,13 @@ pub overflow_sub-second : goal.overflow_sub-second
 overflow_sub-second c =
     let e = c.first_row-first.ensures in
     let h = first-within _ _ c.trim_end-rest.ensures c.if-rest-eq0.false _ e.first_row in
-    omega (arith, row_on _ _ _ h (e.next_value h))
+    omega (arith, row_on _ _ _ h (e.next h))
 
 pub print_block-requires : goal.print_block-requires
 print_block-requires c =
     let e = c.first_row-first.ensures in
     let h = first-within _ _ c.trim_end-rest.ensures c.if-rest-eq0.false _ e.first_row in
-    second_at _ _ _ _ (e.next_value h) c.behind.ensures
+    second_at _ _ _ _ (e.next h) c.behind.ensures
 
 pub returns : goal.returns
 returns c = same (multi-some _ _ _ _ _ c.inside-body.ensures c.starts_with-doc.ensures c.after_star.ensures _ _ _ c.trim_end-rest.ensures c.if-rest-eq0.false c.first_row-first.ensures.first_row c.behind.ensures) c.print_block.ensures

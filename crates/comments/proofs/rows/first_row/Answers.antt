@@ -3,7 +3,7 @@ use Rattle.comments.proofs.Walks.{row-less, skipping-more, skipping-stop, skippi
 use Rattle.comments.proofs.rows.first_row.Goals as goal
 
 pub returns-then-l-gt0 : goal.returns-then-l-gt0
-returns-then-l-gt0 c = record { first_row = skipping-stop c.loop-i.invariant c.loop-i-test.true c.row-l.ensures c.if-l-gt0.true; next_value = λ h. c.next_row-next.ensures }
+returns-then-l-gt0 c = record { first_row = skipping-stop c.loop-i.invariant c.loop-i-test.true c.row-l.ensures c.if-l-gt0.true; next = λ h. c.next_row-next.ensures }
 
 pub loop-i-smaller : goal.loop-i-smaller
 loop-i-smaller c = search row-less
@@ -12,4 +12,4 @@ pub loop-i-preserved : goal.loop-i-preserved
 loop-i-preserved c = search skipping-more
 
 pub returns : goal.returns
-returns c = record { first_row = skipping_all c.loop-i.invariant c.loop-i-test.false; next_value = λ h. absurd (omega arith) }
+returns c = record { first_row = skipping_all c.loop-i.invariant c.loop-i-test.false; next = λ h. absurd (omega arith) }

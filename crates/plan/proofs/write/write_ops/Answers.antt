@@ -6,10 +6,10 @@ use Rattle.plan.proofs.write.write_ops.Goals as goal
 
 pub loop-op-init : goal.loop-op-init
 unfolding words flatten
-loop-op-init c = (refl, writing_none _ _ _ _ _ c.no_size-p.ensures c.requires.false_value)
+loop-op-init c = (refl, writing_none _ _ _ _ _ c.no_size-p.ensures c.requires.fits)
 
-pub write_op-p-requires-clause-p_value : goal.write_op-p-requires-clause-p_value
-write_op-p-requires-clause-p_value c = (writing-fits c.requires.n_in_bounds c.loop-op.invariant.1 c.loop-op-test.true).1
+pub write_op-p-requires-clause-fits : goal.write_op-p-requires-clause-fits
+write_op-p-requires-clause-fits c = (writing-fits c.requires.within c.loop-op.invariant.1 c.loop-op-test.true).1
 
 pub loop-op-preserved : goal.loop-op-preserved
-loop-op-preserved c = (c.loop-op.invariant.0, writing_more c.requires.n_in_bounds c.loop-op.invariant.1 c.loop-op-test.true c.write_op-p.ensures)
+loop-op-preserved c = (c.loop-op.invariant.0, writing_more c.requires.within c.loop-op.invariant.1 c.loop-op-test.true c.write_op-p.ensures)
