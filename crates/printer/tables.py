@@ -2,8 +2,8 @@
 """Writes the tables of crates `plan` and `printer` from the readable list of rows.
 
 The list is `rows` in specs/Layout.antt: for each kind of node with a fixed layout, the pieces that it prints. From it follow the
-numbers of wanted parts and pieces (specs/Rows.antt), the code's tables over them (src/rows.rt) with an answer for each entry
-(proofs/rows), and the numbers of texts, which the writer of a plan knows (crate `plan`: specs/Words.antt, src/words.rt). A
+numbers of wanted parts and pieces (specs/Rows.antt), the code's tables over them (src/rows.rt), in two of them with an answer for each
+entry (proofs/rows), and the numbers of texts, which the writer of a plan knows (crate `plan`: specs/Words.antt, src/words.rt). A
 text that the code prints by itself has a constant in src/words.rt, and stands in FIXED below at the constant's number.
 
     crates/printer/tables.py            writes these files

@@ -28,6 +28,4 @@ unfolding comment
 returns-in-69 c = same (keyed 69 _ _ _ c.in-69.is) (single-rest _ _ c.behind-in-69.ensures c.print_single-in-69.ensures)
 
 pub returns-in_default : goal.returns-in_default
-returns-in_default c =
-    let r = c.in_default.in_default-own.rest in
-    same (erroneous _ _ _ r.0.0.0.0.0.1 r.0.0.0.0.1 r.0.0.0.1 r.0.0.1 r.0.1 r.1) c.print_error.ensures
+returns-in_default c = same (search erroneous) c.print_error.ensures

@@ -30,6 +30,4 @@ unfolding comment
 returns-in-69 c = λ loc. keyed-nil 69 _ _ loc c.in-69.is (single-some _ _ loc)
 
 pub returns-in_default : goal.returns-in_default
-returns-in_default c =
-    λ loc. let r = c.in_default.in_default-own.rest in
-    pieces-nil _ ∙ ap is_nil (erroneous _ _ loc r.0.0.0.0.0.1 r.0.0.0.0.1 r.0.0.0.1 r.0.0.1 r.0.1 r.1)
+returns-in_default c = λ loc. pieces-nil _ ∙ ap is_nil (search erroneous)

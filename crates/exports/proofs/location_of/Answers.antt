@@ -1,3 +1,4 @@
+use borrow.Author.Rules.{rules}
 use borrow.Author.Tests.{ne_eqb}
 use Rattle.exports.specs.Comment.{location}
 use Rattle.exports.proofs.location_of.Goals as goal
@@ -12,4 +13,4 @@ returns-in-1 c = rw c.in-1.is
 
 pub returns-in_default : goal.returns-in_default
 unfolding location
-returns-in_default c = rw (ne_eqb _ 0 c.in_default.in_default-own.rest.0.1, ne_eqb _ 1 c.in_default.in_default-own.rest.1)
+returns-in_default c = rw (ne_eqb c.args.n 0 (search rules), ne_eqb c.args.n 1 (search rules))
