@@ -6,7 +6,7 @@ ghost use Rattle.children.specs.Between.{from_at, to_at, Ends, Bounded};
 use numbers::Element;
 use tree::Tree;
 
-// Where a reading begins and ends, and whether it is loose.
+// Where a reading begins and ends, and whether it is loose. Of which node it is goes without saying here, as with a gap.
 #[derive(Clone, Copy)]
 pub struct Bounds {
     pub from: u32,

@@ -21,7 +21,7 @@ pub enum End {
 }
 
 // A gap: where it begins, the cut between inline and waiting trivia, where it ends; whether a child or trivia came so far;
-// what ends it; and what it holds.
+// what ends it; and what it holds. That these are numbers of a tree (`Lies`) is asked where they are used, since a gap holds no tree.
 #[derive(Clone, Copy)]
 pub struct Span {
     pub from: u32,

@@ -48,7 +48,7 @@ impl<'a> Node<'a> {
         self.tree.nth_of(kinds_of(c), 0, a, b)
     }
 
-    // The marks of its parts, or all marks, which are not sure, where these are not asked for.
+    // The marks of its parts, or all marks, which are not sure, where these are not asked for: what a number of marks tells goes by the node and by that.
     pub fn marks_in(self, asked: bool) -> u64
         ensures { Marks (parts_in self.entry) asked result }
     {

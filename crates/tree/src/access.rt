@@ -95,7 +95,8 @@ impl<'a> Tree<'a> {
         operator & is_plus_sign(s)
     }
 
-    // The siblings from a on that begin before b.
+    // The siblings from a on that begin before b. That a walk of this tree may go from a to b (`Region`) is asked of two places, since only
+    // what this gives holds all three.
     pub fn siblings(&self, a: u32, b: u32) -> Siblings<'a>
         requires { Region self.now.image self.now.index a b }
         ensures left { Left self.now.image self.now.index b result }
