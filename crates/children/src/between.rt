@@ -6,7 +6,8 @@ ghost use Rattle.children.specs.Between.{from_at, to_at, Ends, Bounded};
 use numbers::Element;
 use tree::Tree;
 
-// Where a reading begins and ends, and whether it is loose. Of which node it is goes without saying here, as with a gap.
+// Where a reading begins and ends, and whether it is loose. That it is a reading of a node (`Within`) is asked by the printers, which are handed
+// the node beside it.
 #[derive(Clone, Copy)]
 pub struct Bounds {
     pub from: u32,
