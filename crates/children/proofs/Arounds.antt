@@ -12,7 +12,8 @@ use Rattle.tree.specs.Tree.{Part}
 use Rattle.tree.specs.declared.class.Class.{Class}
 use Rattle.tree.specs.declared.class.Kinds.{Kinds}
 use Rattle.std.specs.Prelude as std
-use Rattle.std.specs.Prelude.{Some, None}
+use Rattle.std.specs.Prelude.{Some, None, Ok, Err}
+use Rattle.std.specs.declared.result.Result.{Result}
 use Rattle.numbers.specs.declared.Element.{Element}
 use Rattle.tree.specs.Class.{is, of_kind, one_of, number_of, all_of}
 use Rattle.tree.specs.Answer.{found}
@@ -23,7 +24,7 @@ use Rattle.tree.proofs.Siblings.{region-part, parts-over}
 use Rattle.children.specs.declared.around.Notes.{Notes}
 use Rattle.children.specs.Reading.{up_to, behind_part, up_to_part, between, foreign_at, with_trivia, strict, leading, trivia_before, trivia_after}
 use Rattle.children.specs.Stretch.{notes, Jumps, here, Stretch}
-use Rattle.children.specs.Between.{from_at, to_at, Ends, Bounded, around_at, leading_to, before_to, Beside, is_kept, foreign_in, Led}
+use Rattle.children.specs.Between.{from_at, to_at, Ends, Bounded, around_at, leading_to, before_to, Placed, Beside, is_kept, foreign_in, Led}
 use Rattle.children.proofs.Walks.{parts_more, all_more}
 use Rattle.children.proofs.Among.{Among, among, among_in, among-behind, among-upto, region-behind, region-upto, region-none}
 use Rattle.children.proofs.Stretch.{note-kinds, jumps-le, jumps-next, jumps-behind}
@@ -133,8 +134,16 @@ pub kept_is : (k : ℕ) {u v : Bool} {w : Kinds} → w ≡ notes → u ≡ one_o
 unfolding is_kept
 kept_is k e p q = rw (p, e, q)
 
-pub strict-beside : {index image : List ℕ} {a b : ℕ} {f : std.Option Element} → Region image index a b → found f ≡ foreign_in (parts_from image index a b) → Beside image index (strict (parts_from image index a b)) a b (record { from = a; to = b; foreign = f })
-strict-beside r e = record { begins = refl; ends = refl; region = r; read = strict_is _ ∙ rw e }
+-- notes between two places
+placed-notes : {index image : List ℕ} {a b from to : ℕ} → Region image index a b → a ≡ from → b ≡ to → (n : Notes) → ◌≡◌ {A = Result Notes Element} (Ok (record { from = a; to = b })) (Ok n) → Placed image index from to n
+placed-notes {a = a} {b = b} r p q n e = let z : record { from = a; to = b } ≡ n = cc in rw (← z) (record { begins = p; ends = q; region = r })
+
+module _ {index image : List ℕ} {a b : ℕ} {f : std.Option Element} (e : found f ≡ foreign_in (parts_from image index a b)) where
+  pub strict-stopped : {x : Element} → f ≡ Some x → Beside image index (strict (parts_from image index a b)) a b (Err x)
+  strict-stopped i = record { read = strict_is _ ∙ rw (← e, i) refl; placed = λ n k. absurd (let z : ◌≡◌ {A = ℕ} 0 1 = cc in omega arith) }
+
+  pub strict-whole : Region image index a b → f ≡ None → Beside image index (strict (parts_from image index a b)) a b (Ok (record { from = a; to = b }))
+  strict-whole r i = record { read = strict_is _ ∙ rw (← e, i) refl; placed = placed-notes r refl refl }
 
 pub foreign-found : (xs : List Part) → number_of (same (find (λ x. not (is_kept x.kind)) xs)) ≡ foreign_in xs
 unfolding foreign_in
@@ -210,23 +219,26 @@ module _ {index image : List ℕ} {a b : ℕ} {e : std.Option Element} (E : Ends
     pub after-region : {from : ℕ} → from ≡ end_at index n.0 → Region image index from b
     after-region p = rw p (region-behind spot)
 
-    pub before-some : {r : Notes} → Beside image index (strict (parts_from image index a n.0)) a n.0 r → (x : Option Part) → number_of x ≡ found e → Beside image index (trivia_before x (parts_from image index a b)) a (before_to index (found e) a (parts_from image index a b)) r
+    pub before-some : {r : Result Notes Element} → Beside image index (strict (parts_from image index a n.0)) a n.0 r → (x : Option Part) → number_of x ≡ found e → Beside image index (trivia_before x (parts_from image index a b)) a (before_to index (found e) a (parts_from image index a b)) r
     unfolding trivia_before
     before-some h none p = let z : ◌≡◌ {A = ℕ} 0 1 = cc in absurd (omega arith)
     before-some h (some x) p = let m : x.number ≡ n.0 = cc in rw (m, among-upto spot, q) h
 
-    pub after-some : {r : Notes} {from : ℕ} → from ≡ end_at index n.0 → Beside image index (strict (parts_from image index from b)) from b r → (x : Option Part) → number_of x ≡ found e → Beside image index (trivia_after x (parts_from image index a b)) (from_at index (found e) b) b r
+    pub after-some : {r : Result Notes Element} {from : ℕ} → from ≡ end_at index n.0 → Beside image index (strict (parts_from image index from b)) from b r → (x : Option Part) → number_of x ≡ found e → Beside image index (trivia_after x (parts_from image index a b)) (from_at index (found e) b) b r
     unfolding trivia_after
     after-some f h none p = let z : ◌≡◌ {A = ℕ} 0 1 = cc in absurd (omega arith)
     after-some f h (some x) p = let m : x.number ≡ n.0 = cc in rw (m, among-behind spot, q, ← f) h
 
   module _ (q : e ≡ None) where
-    pub before-none : {to : ℕ} → Led image index a b to → (x : Option Part) → number_of x ≡ found e → Beside image index (trivia_before x (parts_from image index a b)) a (before_to index (found e) a (parts_from image index a b)) (record { from = a; to = to; foreign = None })
+    pub before-none : {to : ℕ} → Led image index a b to → (x : Option Part) → number_of x ≡ found e → Beside image index (trivia_before x (parts_from image index a b)) a (before_to index (found e) a (parts_from image index a b)) (Ok (record { from = a; to = to }))
     unfolding trivia_before
-    before-none l none p = record { begins = refl; ends = rw q l.ends; region = l.region; read = rw l.read }
+    before-none l none p = record { read = rw l.read; placed = placed-notes l.region refl (rw q l.ends) }
     before-none l (some x) p = let z : ◌≡◌ {A = ℕ} 0 1 = cc in absurd (omega arith)
 
-    pub after_none : (x : Option Part) → number_of x ≡ found e → Beside image index (trivia_after x (parts_from image index a b)) (from_at index (found e) b) b (record { from = b; to = b; foreign = None })
+    pub after_none : (x : Option Part) → number_of x ≡ found e → Beside image index (trivia_after x (parts_from image index a b)) (from_at index (found e) b) b (Ok (record { from = b; to = b }))
     unfolding trivia_after all_of
-    after_none none p = record { begins = rw q; ends = refl; region = record { n = E.region.n; table = E.region.table; begins = E.region.ends; ends = E.region.ends }; read = rw (parts-over index image b b (omega arith)) }
+    after_none none p = record {
+      read = rw (parts-over index image b b (omega arith));
+      placed = placed-notes (record { n = E.region.n; table = E.region.table; begins = E.region.ends; ends = E.region.ends }) (rw q) refl;
+    }
     after_none (some x) p = let z : ◌≡◌ {A = ℕ} 0 1 = cc in absurd (omega arith)

@@ -1,14 +1,15 @@
 -- The parts between a start and an end, and those around an expression, by their numbers.
-use Rattle.std.specs.Prelude.{◌≡◌, Bool, true, cond, ◌||◌, List, [], ◌∷◌, ℕ, ◌≤◌, eqb, ltb}
+use Rattle.std.specs.Prelude.{◌≡◌, Bool, true, cond, ◌||◌, List, [], ◌∷◌, ℕ, ◌≤◌, eqb, ltb, Ok, Err}
+use Rattle.std.specs.declared.result.Result.{Result}
 use Rattle.std.proofs.Math.Option.{Option, none, some}
 use Rattle.text.specs.Basic.{any}
 use Rattle.tree.specs.Source.{LentTree}
 use Rattle.tree.specs.Tree.{Part}
 use Rattle.tree.specs.declared.class.Class.{Class}
 use Rattle.tree.specs.Class.{one_of, of_kind, number_of, all_of}
-use Rattle.tree.specs.Answer.{found}
 use Rattle.tree.specs.Index.{Region, parts_from, end_at}
 use Rattle.children.specs.declared.between.Bounds.{Bounds}
+use Rattle.numbers.specs.declared.Element.{Element}
 use Rattle.children.specs.declared.around.Notes.{Notes}
 use Rattle.children.specs.Reading.{between, pass, start, Around, foreign_at, trivia, is_note, leading, trivia_before, trivia_after}
 use Rattle.children.specs.Stretch.{notes, Stretch}
@@ -53,12 +54,21 @@ abbrev pub around_at : Option ℕ → List Part → Around
 around_at none xs = trivia xs
 around_at (some n) xs = foreign_at n
 
+-- the same by the notes or the foreign element that the code gives
+abbrev pub around_by : List ℕ → List ℕ → Result Notes Element → Around
+around_by image index (Ok n) = trivia (all_of notes (parts_from image index n.from n.to))
+around_by image index (Err x) = foreign_at x.0
+
+-- The notes n stand between two places.
+pub record Placed (image index : List ℕ) (from to : ℕ) (n : Notes) : Type 0 where
+  pub begins : n.from ≡ from
+  pub ends : n.to ≡ to
+  pub region : Region image index n.from n.to
+
 -- r is what x gives, which stands between two places.
-pub record Beside (image index : List ℕ) (x : Around) (from to : ℕ) (r : Notes) : Type 0 where
-  pub begins : r.from ≡ from
-  pub ends : r.to ≡ to
-  pub region : Region image index r.from r.to
-  pub read : x ≡ around_at (found r.foreign) (all_of notes (parts_from image index r.from r.to))
+pub record Beside (image index : List ℕ) (x : Around) (from to : ℕ) (r : Result Notes Element) : Type 0 where
+  pub read : x ≡ around_by image index r
+  pub placed : (n : Notes) → r ≡ Ok n → Placed image index from to n
 
 -- where the trivia and custom errors end that come first of some parts, which begin at a
 unfoldable pub leading_to : List ℕ → ℕ → List Part → ℕ
@@ -71,16 +81,16 @@ before_to index none a xs = leading_to index a xs
 before_to index (some e) a xs = e
 
 -- r is what f gives of a part x with number e, if any, and the siblings from a on that begin before b
-abbrev pub BesideIn : (Option Part → List Part → Around) → LentTree → Option ℕ → ℕ → ℕ → ℕ → ℕ → Notes → Type 0
+abbrev pub BesideIn : (Option Part → List Part → Around) → LentTree → Option ℕ → ℕ → ℕ → ℕ → ℕ → Result Notes Element → Type 0
 BesideIn f tree e a b from to r =
     (x : Option Part) → number_of x ≡ e → Beside tree.entry.now.image tree.entry.now.index (f x (parts_from tree.entry.now.image tree.entry.now.index a b)) from to r
 
 -- what stands before that part, from a on
-abbrev pub BeforeIn : LentTree → Option ℕ → ℕ → ℕ → Notes → Type 0
+abbrev pub BeforeIn : LentTree → Option ℕ → ℕ → ℕ → Result Notes Element → Type 0
 BeforeIn tree e a b r = BesideIn trivia_before tree e a b a (before_to tree.entry.now.index e a (parts_from tree.entry.now.image tree.entry.now.index a b)) r
 
 -- what stands behind it, up to b
-abbrev pub AfterIn : LentTree → Option ℕ → ℕ → ℕ → Notes → Type 0
+abbrev pub AfterIn : LentTree → Option ℕ → ℕ → ℕ → Result Notes Element → Type 0
 AfterIn tree e a b r = BesideIn trivia_after tree e a b (from_at tree.entry.now.index e b) b r
 
 -- trivia, a custom error or a separator: what a strict reading takes or skips

@@ -11,12 +11,11 @@ use numbers::Element;
 use tree::Tree;
 use tree::class::is;
 
-// The trivia and custom errors from one element up to another, unless a foreign element stands there.
+// The trivia and custom errors from one element up to another.
 #[derive(Clone, Copy)]
 pub struct Notes {
     pub from: u32,
     pub to: u32,
-    pub foreign: Option<Element>,
 }
 
 // Whether a kind is trivia, a custom error or a separator.
@@ -36,16 +35,14 @@ fn foreign_of(tree: &Tree, a: u32, b: u32) -> Option<Element>
     tree.siblings(a, b).find(|j| !is_kept(tree.kind_at(j.0)))
 }
 
-// The trivia and custom errors from a on that begin before b, which is a strict reading.
-fn strict_notes(tree: &Tree, a: u32, b: u32) -> Notes
+// The trivia and custom errors from a on that begin before b, which is a strict reading, or the foreign element that stops it.
+fn strict_notes(tree: &Tree, a: u32, b: u32) -> Result<Notes, Element>
     requires { Region tree.now.image tree.now.index a b }
     ensures { Beside tree.now.image tree.now.index (strict (parts_from tree.now.image tree.now.index a b)) a b result }
 {
-    let foreign = foreign_of(tree, a, b);
-    Notes {
-        from: a,
-        to: b,
-        foreign,
+    match foreign_of(tree, a, b) {
+        Some(x) => Err(x),
+        None => Ok(Notes { from: a, to: b }),
     }
 }
 
@@ -66,7 +63,12 @@ fn leading_end(tree: &Tree, a: u32, b: u32) -> u32
 }
 
 // The trivia before an expression among the elements from a on that begin before b; without one, the trivia that comes first.
-pub fn trivia_before(tree: &Tree, e: Option<Element>, a: u32, b: u32) -> Notes
+pub fn trivia_before(
+    tree: &Tree,
+    e: Option<Element>,
+    a: u32,
+    b: u32,
+) -> Result<Notes, Element>
     requires { Ends tree.now.image tree.now.index a b (found e) none }
     ensures { BeforeIn tree (found e) a b result }
 {
@@ -74,27 +76,23 @@ pub fn trivia_before(tree: &Tree, e: Option<Element>, a: u32, b: u32) -> Notes
         Some(x) => strict_notes(tree, a, x.0),
         None => {
             let to = leading_end(tree, a, b);
-            Notes {
-                from: a,
-                to,
-                foreign: None,
-            }
+            Ok(Notes { from: a, to })
         }
     }
 }
 
-// The trivia behind an expression among the elements from a on that begin before b; without one, nothing, where `trivia_before` has what
-// comes first.
-pub fn trivia_after(tree: &Tree, e: Option<Element>, a: u32, b: u32) -> Notes
+// The trivia behind an expression among the elements from a on that begin before b; without one, nothing. It differs from `trivia_before` in both arms.
+pub fn trivia_after(
+    tree: &Tree,
+    e: Option<Element>,
+    a: u32,
+    b: u32,
+) -> Result<Notes, Element>
     requires { Ends tree.now.image tree.now.index a b (found e) none }
     ensures { AfterIn tree (found e) a b result }
 {
     match e {
         Some(x) => strict_notes(tree, tree.end_at(x.0), b),
-        None => Notes {
-            from: b,
-            to: b,
-            foreign: None,
-        },
+        None => Ok(Notes { from: b, to: b }),
     }
 }

@@ -12,7 +12,7 @@ use std::ops::ControlFlow::{Break, Continue};
 use tree::Tree;
 use tree::class::Kinds;
 
-// What ends a gap: a child, the end of the reading, a foreign element.
+// What ends a gap: a child, the end of the reading, a foreign element. Where it ends stands in the gap, whichever it is.
 #[derive(Clone, Copy)]
 pub enum End {
     Child,
@@ -53,7 +53,8 @@ pub(crate) fn ended_by(s: Span, end: End) -> Span
     Span { end, ..s }
 }
 
-// The gap that begins at from, of a reading: behind a child, or (not after) at the reading's start.
+// The gap that begins at from, of a reading: behind a child, or (not after) at the reading's start. This walk and that of `lead` are not over
+// `Siblings`, since they give the place where they end, also the one behind the last sibling.
 pub fn gap(tree: &Tree, w: Kinds, z: Bounds, after: bool, from: u32) -> Span
     requires { Region tree.now.image tree.now.index from z.to }
     ensures { Spans tree.now.image tree.now.index w z.loose after from z.to result }

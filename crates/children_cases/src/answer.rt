@@ -53,7 +53,7 @@ fn bit(b: bool) -> u32 {
     u32::from(b)
 }
 
-// The numbers of the siblings of these kinds from a on that begin before b.
+// The numbers of the siblings of these kinds from a on that begin before b: two places that need be no region of the tree, which `Siblings` asks.
 fn mix_all(tree: &Tree, w: Kinds, a: u32, b: u32, h: u32) -> u32 {
     let mut n = h;
     let mut j = a;

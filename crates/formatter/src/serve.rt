@@ -70,11 +70,8 @@ pub struct Buffers<'a, 'l> {
 }
 
 impl<'a, 'l> Buffers<'a, 'l> {
-    pub fn new(
-        records: &'a mut [u32],
-        texts: &'a mut [u8],
-        listing: &'l mut [u8],
-    ) -> Buffers<'a, 'l>
+    // The three together.
+    pub fn new(records: &'a mut [u32], texts: &'a mut [u8], listing: &'l mut [u8]) -> Self
         ensures { result ≡ buffers records.entry texts.entry listing.entry }
     {
         Buffers {

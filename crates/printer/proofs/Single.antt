@@ -78,6 +78,10 @@ module _ {image index : List ℕ} {w : Kinds} {z : Bounds} {s : Span} (k : w ≡
       go End.Last q = let n : [] ≡ r.kids = cc in absurd (omega (arith, count, ap length n))
       go End.Foreign q = foreign-read q
 
+  -- and it is one of the node
+  pub lone-kid : {i : ℕ} → Within image index i z → Kid image index i s.to
+  lone-kid n = kid_of n.at (stretch_both n.reached (span-reached h)) (omega (arith, h.inside lone-there, n.inside))
+
   pub lone_is : (pr : ℕ → Print) → local_of pr (read_at image index Bind z nothing) ≡ comments (gap_at image index s).waiting above_item ⨟ (lit "local " ⨟ pr s.to)
   lone_is pr =
       let c = span-child' in

@@ -43,19 +43,11 @@ pub fn plan_source(planner: &mut Planner, tree: &Tree)
     let e = root.first_of(Class::Expr);
     let a = root.start();
     let b = root.end();
-    let before = trivia_before(tree, e, a, b);
-    let after = trivia_after(tree, e, a, b);
-    let f = before.foreign;
-    if let Some(x) = f {
-        planner.stop_at(x);
-        return;
+    match (trivia_before(tree, e, a, b), trivia_after(tree, e, a, b)) {
+        (Ok(before), Ok(after)) => plan_whole(planner, root, e, before, after),
+        (Err(x), _) => planner.stop_at(x),
+        (_, Err(x)) => planner.stop_at(x),
     }
-    let g = after.foreign;
-    if let Some(x) = g {
-        planner.stop_at(x);
-        return;
-    }
-    plan_whole(planner, root, e, before, after);
 }
 
 // The comments before the expression of a node, the expression, and the comments behind it.

@@ -132,8 +132,8 @@ pub fn keep_waiting(planner: &mut Planner, tree: &Tree, s: Span, loc: CommentLoc
     }
 }
 
-// The inline trivia of a gap, if it is kept. One function for this and `keep_waiting` would take the other call as a closure, whose contract is longer
-// than both.
+// The inline trivia of a gap, if it is kept. As one function this and `keep_waiting` would take the call that differs as a closure, whose
+// contract is longer than both.
 pub fn keep_inline(planner: &mut Planner, tree: &Tree, g: Span, loc: CommentLocation)
     requires { Lies tree.now.image tree.now.index g }
     ensures { PlansIn planner tree (keeping (comments (gap_in tree g).inline (place loc))) }
@@ -181,7 +181,7 @@ fn first_mark(k: Run) -> Mark
     Mark(2 * (k.0 as u64))
 }
 
-// The second line mark of list k.
+// The second line mark of list k: by a name of its own, which says more than a number or a test at a call.
 fn second_mark(k: Run) -> Mark
     ensures { result.0 ≡ 2 * k.0 + 1 }
 {

@@ -212,8 +212,8 @@ fn stmt(planner: &mut Planner, n: Node, s: Span, j: Element, g: Span)
     keep_inline(planner, n.tree, g, CommentLocation::EndOfItems);
 }
 
-// The suffixes of a reading of a node, without their comments. Most readings have no element. `stmts` needs a gap more at each step and prints what is
-// left.
+// The suffixes of a reading of a node, without their comments. Most readings have no element. `stmts` begins alike, but hands on the gap behind
+// each child, and prints what is left at the end.
 #[cycle(printers)]
 fn values(planner: &mut Planner, n: Node, z: Bounds)
     requires { Within n.tree.now.image n.tree.now.index n.element.0 z }

@@ -93,7 +93,7 @@ fn without(lo: u32, hi: u32, but: u32) -> Kinds
     }
 }
 
-// The kinds of a class.
+// The kinds of a class: a function by name, since a call that says `from` or `into` says no class.
 #[tactic(auto, unfolding(crate::specs::Class::kinds))]
 pub fn kinds_of(c: Class) -> Kinds
     ensures { result ≡ kinds c }

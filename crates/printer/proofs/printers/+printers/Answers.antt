@@ -16,7 +16,7 @@ use Rattle.printer.proofs.Looking.{first-has, ends-has, bounded_as, none_has, wa
 use Rattle.plan.specs.Words.{words}
 use Rattle.children.proofs.Uses.{child_is}
 use Rattle.printer.specs.Walked.{stated}
-use Rattle.printer.proofs.Single.{lone-there, lone_is, spec-kid, specs-none, specs-some, specs-walks}
+use Rattle.printer.proofs.Single.{lone-kid, lone_is, spec-kid, specs-none, specs-some, specs-walks}
 use Rattle.printer.proofs.Nodes.{element-fits, node-token, node-own, node_row}
 use borrow.Author.Tests.{not-true, not-false}
 use Rattle.tree.specs.Answer.{found}
@@ -190,16 +190,15 @@ local-returns t c = c.binds.ensures ▸ c.plan_word.ensures _ ▸ c.plan_signal.
 -- ---- lone
 
 pub lone-invariant_of-node : goal.lone-invariant_of-node
-lone-invariant_of-node t c = record { at = kid_at (walks-kid (walks-first _ c.requires.within (spans_as c.kinds_of-w.ensures c.gap-s.ensures)) (lone-there c.kinds_of-w.ensures c.gap-s.ensures c.requires.whole c.requires.one)) }
+lone-invariant_of-node t c = record { at = kid_at (lone-kid c.kinds_of-w.ensures c.gap-s.ensures c.requires.whole c.requires.one c.requires.within) }
 
 pub lone-node-requires : goal.lone-node-requires
-lone-node-requires t c = (kid_falls (walks-kid (walks-first _ c.requires.within (spans_as c.kinds_of-w.ensures c.gap-s.ensures)) (lone-there c.kinds_of-w.ensures c.gap-s.ensures c.requires.whole c.requires.one)) c.decreases, tt {0})
+lone-node-requires t c = (kid_falls (lone-kid c.kinds_of-w.ensures c.gap-s.ensures c.requires.whole c.requires.one c.requires.within) c.decreases, tt {0})
 
 pub lone-returns : goal.lone-returns
 unfolding words
 lone-returns t c =
-    let k = walks-kid (walks-first _ c.requires.within (spans_as c.kinds_of-w.ensures c.gap-s.ensures)) (lone-there c.kinds_of-w.ensures c.gap-s.ensures c.requires.whole c.requires.one) in
-    by (lone_is c.kinds_of-w.ensures c.gap-s.ensures c.requires.whole c.requires.one _) (c.plan_waiting.ensures ▸ c.plan_word.ensures _ ▸ by (kid-print k) c.node.ensures)
+    by (lone_is c.kinds_of-w.ensures c.gap-s.ensures c.requires.whole c.requires.one _) (c.plan_waiting.ensures ▸ c.plan_word.ensures _ ▸ by (kid-print (lone-kid c.kinds_of-w.ensures c.gap-s.ensures c.requires.whole c.requires.one c.requires.within)) c.node.ensures)
 
 -- ---- node
 
