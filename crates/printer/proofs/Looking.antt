@@ -124,5 +124,5 @@ pub ends-has : {image index : List ℕ} {i a b : ℕ} {s e : Option ℕ} → At 
 ends-has t p q x y = rw (p, q) (record { region = at-region t refl refl; starts = x.part; ends = y.part })
 
 -- its bounds by the parts that were found
-pub bounded_as : {image index : List ℕ} (i : ℕ) {a b : ℕ} {s e s' e' : Option ℕ} {z : Bounds} → a ≡ i + 1 → b ≡ end_at index i → s ≡ s' → e ≡ e' → Bounded image index a b s e z → Bounded image index (i + 1) (end_at index i) s' e' z
-bounded_as i p q x y h = rw (← p, ← q, ← x, ← y) h
+pub bounded_as : {image index : List ℕ} {a b : ℕ} {s e s' e' : Option ℕ} {z : Bounds} → s ≡ s' → e ≡ e' → Bounded image index a b s e z → Bounded image index a b s' e' z
+bounded_as x y h = rw (← x, ← y) h

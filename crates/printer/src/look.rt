@@ -4,17 +4,18 @@ ghost use Rattle.text.specs.Basic.{any};
 ghost use Rattle.tree.specs.Answer.{found};
 ghost use Rattle.tree.specs.declared.class.Class.TheVariants.{RBrace};
 ghost use Rattle.tree.specs.Index.{end_at};
-ghost use Rattle.tree.specs.Class.{nth, first, last, plus_of, number_of};
+ghost use Rattle.tree.specs.Class.{nth_of, nth, first, last, plus_of, number_of};
 ghost use Rattle.printer.specs.Layout;
 ghost use Rattle.printer.specs.Layout.{asked};
 ghost use Rattle.printer.specs.Rows.{want_at, wanted as wanted_parts, piece_of, tested, want_count, marked, Marks};
+ghost use Rattle.printer.specs.Reads.{Has};
 ghost use Rattle.printer.specs.Clauses.{spec_start_in, parts_in, first_in, BoundedIn};
 
 use super::node::Node;
 use super::rows::{ALL_MARKS, Entry, OPERATORS, kinds_wanted, marks_of, place_wanted};
 use children::between::{Bounds, bounds_between};
 use numbers::Element;
-use tree::class::{Class, kinds_of};
+use tree::class::{Class, Kinds, kinds_of};
 
 // Whether a bit of marks is set.
 fn is_marked(m: u64, w: u32) -> bool
@@ -39,13 +40,27 @@ impl<'a> Node<'a> {
         self.tree.end_at(self.element.0)
     }
 
+    // The n-th part of these kinds, from 0.
+    fn nth(self, w: Kinds, n: u32) -> Option<Element>
+        ensures { found result ≡ number_of (nth_of w n (parts_in self.entry)) }
+    {
+        self.tree.nth_of(w, n, self.start(), self.end())
+    }
+
     // The first part of a class.
     pub fn first_of(self, c: Class) -> Option<Element>
         ensures { found result ≡ number_of (first c (parts_in self.entry)) }
     {
-        let a = self.start();
-        let b = self.end();
-        self.tree.nth_of(kinds_of(c), 0, a, b)
+        self.nth(kinds_of(c), 0)
+    }
+
+    // The bounds of a reading of its parts, between a start and an end, if any.
+    pub fn between(self, start: Option<Element>, end: Option<Element>) -> Bounds
+        requires starts { Has (parts_in self) (found start) }
+        requires ends { Has (parts_in self) (found end) }
+        ensures { BoundedIn self.entry (found start) (found end) result }
+    {
+        bounds_between(self.tree, start, end, self.start(), self.end())
     }
 
     // The marks of its parts, or all marks, which are not sure, where these are not asked for: what a number of marks tells goes by the node and by that.
@@ -69,9 +84,7 @@ impl<'a> Node<'a> {
         requires known { w < want_count }
         ensures { found result ≡ number_of (nth (want_at w).class (want_at w).place (parts_in self.entry)) }
     {
-        let a = self.start();
-        let b = self.end();
-        self.tree.nth_of(kinds_wanted(w), place_wanted(w), a, b)
+        self.nth(kinds_wanted(w), place_wanted(w))
     }
 
     // The wanted part with a number, of a node whose parts have the marks m.
@@ -128,30 +141,23 @@ impl<'a> Node<'a> {
         if !is_marked(m, OPERATORS) {
             return None;
         }
-        let a = self.start();
-        let b = self.end();
-        self.tree.plus_of(a, b)
+        self.tree.plus_of(self.start(), self.end())
     }
 
     // The reading between the first tokens of two classes.
     pub fn enclosed(self, opening: Class, closing: Class) -> Bounds
         ensures { BoundedIn self.entry (first_in self.entry opening) (first_in self.entry closing) result }
     {
-        let start = self.first_of(opening);
-        let end = self.first_of(closing);
-        let a = self.start();
-        bounds_between(self.tree, start, end, a, self.end())
+        self.between(self.first_of(opening), self.first_of(closing))
     }
 
     // The second reading of an object comprehension, of its CompSpecs.
     pub fn spec_bounds(self) -> Bounds
         ensures { BoundedIn self.entry (spec_start_in self.entry) (first_in self.entry RBrace) result }
     {
-        let a = self.start();
-        let b = self.end();
-        let last = self.tree.last_of(kinds_of(Class::MemberComp), a, b);
+        let members = kinds_of(Class::MemberComp);
+        let last = self.tree.last_of(members, self.start(), self.end());
         let start = last.or(self.first_of(Class::LBrace));
-        let end = self.first_of(Class::RBrace);
-        bounds_between(self.tree, start, end, a, b)
+        self.between(start, self.first_of(Class::RBrace))
     }
 }

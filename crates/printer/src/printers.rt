@@ -27,7 +27,7 @@ use super::lists::{
 use super::node::Node;
 use super::pieces::plan_end;
 use super::rows::{Entry, What, entry_at, kinds_wanted, row_of, what_in};
-use children::between::{Bounds, bounds_between};
+use children::between::Bounds;
 use children::gap::{Span, at_child, gap, lead};
 use children::survey::{Outline, is_stopped, survey, survey_after};
 use comments::CommentLocation;
@@ -159,10 +159,8 @@ fn expr(planner: &mut Planner, n: Node)
     ensures { PlansOf planner n.entry (expression (under_in n.entry) (parts_in n.entry) (first ExprBase (parts_in n.entry))) }
 {
     let base = n.first_of(Class::ExprBase);
-    let a = n.start();
-    let b = n.end();
-    let y = bounds_between(n.tree, None, base, a, b);
-    let z = bounds_between(n.tree, base, None, a, b);
+    let y = n.between(None, base);
+    let z = n.between(base, None);
     stmts(planner, n, y);
     part(planner, n, base, words::MISSING_EXPR_BASE);
     values(planner, n, z);
@@ -348,8 +346,7 @@ fn comp(planner: &mut Planner, n: Node)
         return;
     }
     let brace = n.first_of(Class::LBrace);
-    let a = n.start();
-    let y = bounds_between(n.tree, brace, spec, a, n.end());
+    let y = n.between(brace, spec);
     let m = survey(n.tree, kinds_of(Class::Member), y);
     if is_stopped(m) {
         planner.stop_at(Element(m.last.to));

@@ -12,7 +12,7 @@ use Rattle.printer.specs.Print.{element}
 use Rattle.items.specs.declared.Condition.TheVariants.{Always}
 use Rattle.printer.proofs.Rowing.{kid_falls, eaching-none, eaching-kid, eaching-more, eaching-all, class-tested, each-other, each-one, found_kid, number-found, number-none, piece-unasked, piece-asked_lem, piece-text, piece-signal, piece-each, piece-part, piece-plus, rowing_more, rowing-all}
 use Rattle.printer.proofs.Under.{at-region, kid_at, kid-print}
-use Rattle.printer.proofs.Looking.{first-has, ends-has, bounded_as, none_has, want-has, plus-part}
+use Rattle.printer.proofs.Looking.{first-has, bounded_as, none_has, want-has, plus-part}
 use Rattle.plan.specs.Words.{words}
 use Rattle.children.proofs.Uses.{child_is}
 use Rattle.printer.specs.Walked.{stated}
@@ -80,22 +80,22 @@ child-returns t c = by (around_is _ _ _ _ _ _ _) (c.plan_above.ensures ▸ by (k
 pub comp-returns-then-is_none : goal.comp-returns-then-is_none
 comp-returns-then-is_none t c = by (comp-lacks _ _ _ _ c.first_of-spec.ensures (lacking _ c.is_none.ensures) c.if-is_none.true) (c.stop_at.ensures.plans _)
 
-pub comp-bounds_between-y-requires : goal.comp-bounds_between-y-requires
-comp-bounds_between-y-requires t c = ends-has c.args.n.at c.start-a.ensures c.end.ensures (first-has _ _ c.first_of-brace.ensures) (first-has _ _ c.first_of-spec.ensures)
+pub comp-between-y-requires : goal.comp-between-y-requires
+comp-between-y-requires t c = record { starts = first-has _ _ c.first_of-brace.ensures; ends = first-has _ _ c.first_of-spec.ensures }
 
 pub comp-returns-then-is_stopped : goal.comp-returns-then-is_stopped
 comp-returns-then-is_stopped t c =
-    let d = bounded_as _ c.start-a.ensures c.end.ensures c.first_of-brace.ensures c.first_of-spec.ensures c.bounds_between-y.ensures in
+    let d = bounded_as c.first_of-brace.ensures c.first_of-spec.ensures c.between-y.ensures in
     by (member_reading _ _ _ c.first_of-spec.ensures (lacking _ c.is_none.ensures) c.if-is_none.false d ∙ comp-foreign _ _ (survey-foreign _ c.kinds_of.ensures c.survey-m.ensures c.is_stopped.ensures c.if-is_stopped.true)) (c.stop_at-then-is_stopped.ensures.plans _)
 
 pub comp-body-requires : goal.comp-body-requires
 comp-body-requires t c =
-    let d = bounded_as _ c.start-a.ensures c.end.ensures c.first_of-brace.ensures c.first_of-spec.ensures c.bounds_between-y.ensures in
+    let d = bounded_as c.first_of-brace.ensures c.first_of-spec.ensures c.between-y.ensures in
     (omega (arith, c.decreases), (within c.args.n.at d, (c.survey-m.ensures.outlines.lies, survey-outlined _ c.kinds_of.ensures c.survey-m.ensures c.is_stopped.ensures c.if-is_stopped.false)))
 
 pub comp-returns : goal.comp-returns
 comp-returns t c =
-    let d = bounded_as _ c.start-a.ensures c.end.ensures c.first_of-brace.ensures c.first_of-spec.ensures c.bounds_between-y.ensures in
+    let d = bounded_as c.first_of-brace.ensures c.first_of-spec.ensures c.between-y.ensures in
     by (member_reading _ _ _ c.first_of-spec.ensures (lacking _ c.is_none.ensures) c.if-is_none.false d) c.body.ensures
 
 -- ---- each
@@ -123,17 +123,17 @@ each-returns t c = let (K, L) = c.loop-j.invariant in eaching-all K c.end-b.ensu
 
 -- ---- expr
 
-pub expr-bounds_between-y-requires : goal.expr-bounds_between-y-requires
-expr-bounds_between-y-requires t c = search (ends-has, none_has, first-has)
+pub expr-between-y-requires : goal.expr-between-y-requires
+expr-between-y-requires t c = record { starts = none_has _ refl; ends = first-has _ _ c.first_of-base.ensures }
 
-pub expr-bounds_between-z-requires : goal.expr-bounds_between-z-requires
-expr-bounds_between-z-requires t c = search (ends-has, none_has, first-has)
+pub expr-between-z-requires : goal.expr-between-z-requires
+expr-between-z-requires t c = record { starts = first-has _ _ c.first_of-base.ensures; ends = none_has _ refl }
 
 pub expr-part-requires : goal.expr-part-requires
 expr-part-requires t c = (omega (arith, c.decreases), ((first-has _ _ c.first_of-base.ensures, omega arith)))
 
 pub expr-returns : goal.expr-returns
-expr-returns t c = plans-expr _ _ _ c.first_of-base.ensures (bounded_as _ c.start-a.ensures c.end-b.ensures refl refl c.bounds_between-y.ensures) (bounded_as _ c.start-a.ensures c.end-b.ensures refl refl c.bounds_between-z.ensures) c.stmts.ensures c.part.ensures c.values.ensures
+expr-returns t c = plans-expr _ _ _ c.first_of-base.ensures c.between-y.ensures c.between-z.ensures c.stmts.ensures c.part.ensures c.values.ensures
 
 -- ---- items
 
