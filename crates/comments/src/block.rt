@@ -66,54 +66,6 @@ fn print_rows(out: &mut Output, doc: bool, s: &[u8], i: usize, n: usize)
     }
 }
 
-// The lines of a comment that does not begin beside its opening, without their common padding.
-fn print_below(out: &mut Output, doc: bool, s: &[u8], second: usize)
-    requires { second ≡ suc (line_end s.now 0) }
-    ensures { SaysIn out (flatten (map (one_line doc) (unpadded false (rows s.now 0)))) }
-{
-    let n = common_length(s, row(s, 0, second), second);
-    print_rows(out, doc, s, 0, n);
-}
-
-// The lines of a comment that begins beside its opening: the first as it is, the others without their common padding.
-fn print_beside(out: &mut Output, doc: bool, s: &[u8], second: usize)
-    requires { second ≡ suc (line_end s.now 0) }
-    ensures { SaysIn out (flatten (map (one_line doc) (unpadded true (rows s.now 0)))) }
-{
-    print_row(out, doc, row(s, 0, second));
-    if s.len() < second {
-        return;
-    }
-    let third = next_row(s, second);
-    let n = common_length(s, row(s, second, third), third);
-    print_rows(out, doc, s, second, n);
-}
-
-// A comment over many lines, or a doc comment, with its second line at `second`.
-fn print_many(out: &mut Output, doc: bool, immediate: bool, s: &[u8], second: usize)
-    requires { second ≡ suc (line_end s.now 0) }
-    ensures { SaysIn out (many_lines doc (unpadded immediate (rows s.now 0))) }
-{
-    out.print_text(b"/*");
-    print_if(out, doc, b"*");
-    out.print_signal(Signal::NewLine);
-    print_between(out, doc, immediate, s, second);
-    print_if(out, doc, b" ");
-    out.print_text(b"*/");
-    out.print_signal(Signal::NewLine);
-}
-
-fn print_between(out: &mut Output, doc: bool, immediate: bool, s: &[u8], second: usize)
-    requires { second ≡ suc (line_end s.now 0) }
-    ensures { SaysIn out (flatten (map (one_line doc) (unpadded immediate (rows s.now 0)))) }
-{
-    if immediate {
-        print_beside(out, doc, s, second);
-    } else {
-        print_below(out, doc, s, second);
-    }
-}
-
 // A comment on one line.
 fn print_one(out: &mut Output, s: &[u8], loc: CommentLocation)
     ensures { SaysIn out (on_one_line s.now (place loc)) }
@@ -125,22 +77,75 @@ fn print_one(out: &mut Output, s: &[u8], loc: CommentLocation)
     print_end(out, loc);
 }
 
-// A comment with these lines, of which the first and the last are not empty and the second begins at `second`.
-fn print_block(
-    out: &mut Output,
+// A comment with lines: whether it is a doc comment, whether its first line stands beside the opening, its lines, of which the first and the
+// last are not empty, and where the second begins.
+#[derive(Clone, Copy)]
+struct Block<'a> {
     doc: bool,
     immediate: bool,
-    s: &[u8],
+    body: &'a [u8],
     second: usize,
-    loc: CommentLocation,
-)
-    requires { second ≡ suc (line_end s.now 0) }
-    ensures { SaysIn out (block_of doc immediate (rows s.now 0) (place loc)) }
-{
-    if !doc && s.len() < second {
-        print_one(out, row(s, 0, second), loc);
-    } else {
-        print_many(out, doc, immediate, s, second);
+    ghost parted: { second ≡ suc (line_end body.now 0) },
+}
+
+impl<'a> Block<'a> {
+    // The lines of a comment that does not begin beside its opening, without their common padding.
+    fn print_below(self, out: &mut Output)
+        ensures { SaysIn out (flatten (map (one_line self.entry.doc) (unpadded false (rows self.entry.body.now 0)))) }
+    {
+        let s = self.body;
+        let n = common_length(s, row(s, 0, self.second), self.second);
+        print_rows(out, self.doc, s, 0, n);
+    }
+
+    // The lines of a comment that begins beside its opening: the first as it is, the others without their common padding.
+    fn print_beside(self, out: &mut Output)
+        ensures { SaysIn out (flatten (map (one_line self.entry.doc) (unpadded true (rows self.entry.body.now 0)))) }
+    {
+        let s = self.body;
+        let second = self.second;
+        print_row(out, self.doc, row(s, 0, second));
+        if s.len() < second {
+            return;
+        }
+        let third = next_row(s, second);
+        let n = common_length(s, row(s, second, third), third);
+        print_rows(out, self.doc, s, second, n);
+    }
+
+    fn print_between(self, out: &mut Output)
+        ensures { SaysIn out (flatten (map (one_line self.entry.doc) (unpadded self.entry.immediate (rows self.entry.body.now 0)))) }
+    {
+        if self.immediate {
+            self.print_beside(out);
+        } else {
+            self.print_below(out);
+        }
+    }
+
+    // A comment over many lines, or a doc comment.
+    fn print_many(self, out: &mut Output)
+        ensures { SaysIn out (many_lines self.entry.doc (unpadded self.entry.immediate (rows self.entry.body.now 0))) }
+    {
+        out.print_text(b"/*");
+        print_if(out, self.doc, b"*");
+        out.print_signal(Signal::NewLine);
+        self.print_between(out);
+        print_if(out, self.doc, b" ");
+        out.print_text(b"*/");
+        out.print_signal(Signal::NewLine);
+    }
+
+    // A comment with these lines.
+    fn print_block(self, out: &mut Output, loc: CommentLocation)
+        ensures { SaysIn out (block_of self.entry.doc self.entry.immediate (rows self.entry.body.now 0) (place loc)) }
+    {
+        let s = self.body;
+        if !self.doc && s.len() < self.second {
+            print_one(out, row(s, 0, self.second), loc);
+        } else {
+            self.print_many(out);
+        }
     }
 }
 
@@ -173,7 +178,13 @@ pub fn print_multi_line(out: &mut Output, s: &[u8], loc: CommentLocation)
     let first = first_row(rest);
     let start = first.start;
     let second = first.next - start;
-    print_block(out, doc, start == 0, behind(rest, start), second, loc);
+    let block = Block {
+        doc,
+        immediate: start == 0,
+        body: behind(rest, start),
+        second,
+    };
+    block.print_block(out, loc);
 }
 
 // Whether a multi-line comment has no text, and so prints nothing.

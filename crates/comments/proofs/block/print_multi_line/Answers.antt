@@ -14,11 +14,11 @@ overflow_sub-second c =
     let h = first-within _ _ c.trim_end-rest.ensures c.if-rest-eq0.false _ e.first_row in
     omega (arith, row_on _ _ _ h (e.next h))
 
-pub print_block-requires : goal.print_block-requires
-print_block-requires c =
+pub invariant_of-block : goal.invariant_of-block
+invariant_of-block c =
     let e = c.first_row-first.ensures in
     let h = first-within _ _ c.trim_end-rest.ensures c.if-rest-eq0.false _ e.first_row in
-    second_at _ _ _ _ (e.next h) c.behind.ensures
+    record { parted = second_at _ _ _ _ (e.next h) c.behind.ensures }
 
 pub returns : goal.returns
 returns c = same (multi-some _ _ _ _ _ c.inside-body.ensures c.starts_with-doc.ensures c.after_star.ensures _ _ _ c.trim_end-rest.ensures c.if-rest-eq0.false c.first_row-first.ensures.first_row c.behind.ensures) c.print_block.ensures

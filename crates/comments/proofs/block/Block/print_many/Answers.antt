@@ -1,6 +1,6 @@
 use Rattle.comments.specs.Comments.{many_lines}
 use Rattle.items.proofs.Laws.{◌▸▸◌}
-use Rattle.comments.proofs.block.print_many.Goals as goal
+use Rattle.comments.proofs.block.Block.print_many.Goals as goal
 
 pub returns : goal.returns
 unfolding many_lines

@@ -1,5 +1,0 @@
-use Rattle.comments.proofs.Said.{same, below}
-use Rattle.comments.proofs.block.print_below.Goals as goal
-
-pub returns : goal.returns
-returns c = same (below _ _ _ _ _ c.row.ensures c.requires c.common_length-n.ensures) c.print_rows.ensures
