@@ -3,7 +3,7 @@ use native.Mathlib.Omega.{arith}
 use Rattle.listing.proofs.Items.{shown-text, shown-lines, shown-number, shown-name}
 use Rattle.listing.proofs.Writes.{by, room_as}
 use Rattle.items.specs.Names.{other_names, names_of}
-use Rattle.listing.proofs.put_item.Goals as goal
+use Rattle.listing.proofs.Sheet.put_item.Goals as goal
 
 pub put_text-requires : goal.put_text-requires
 unfolding other_names names_of
@@ -33,6 +33,6 @@ pub put_name-requires : goal.put_name-requires
 unfolding other_names names_of
 put_name-requires c = record { known = omega (arith, c.requires.known.known); room = room_as (shown-name _ _ _ _ c.if-kind-eq-TEXT.false c.if-kind-first.false c.has_number.ensures c.if-has_number.false) c.requires.room }
 
-pub returns : goal.returns
+pub returns-else-has_number : goal.returns-else-has_number
 unfolding other_names names_of
-returns c = by (shown-name _ _ _ _ c.if-kind-eq-TEXT.false c.if-kind-first.false c.has_number.ensures c.if-has_number.false) c.put_name.ensures
+returns-else-has_number c = by (shown-name _ _ _ _ c.if-kind-eq-TEXT.false c.if-kind-first.false c.has_number.ensures c.if-has_number.false) c.put_name.ensures
