@@ -63,12 +63,7 @@ fn leading_end(tree: &Tree, a: u32, b: u32) -> u32
 }
 
 // The trivia before an expression among the elements from a on that begin before b; without one, the trivia that comes first.
-pub fn trivia_before(
-    tree: &Tree,
-    e: Option<Element>,
-    a: u32,
-    b: u32,
-) -> Result<Notes, Element>
+pub fn trivia_before(tree: &Tree, e: Option<Element>, a: u32, b: u32) -> Result<Notes, Element>
     requires { Ends tree.now.image tree.now.index a b (found e) none }
     ensures { BeforeIn tree (found e) a b result }
 {
@@ -81,13 +76,9 @@ pub fn trivia_before(
     }
 }
 
-// The trivia behind an expression among the elements from a on that begin before b; without one, nothing. It differs from `trivia_before` in both arms.
-pub fn trivia_after(
-    tree: &Tree,
-    e: Option<Element>,
-    a: u32,
-    b: u32,
-) -> Result<Notes, Element>
+// The trivia behind an expression among the elements from a on that begin before b; without one, nothing. It differs from
+// `trivia_before` in both arms.
+pub fn trivia_after(tree: &Tree, e: Option<Element>, a: u32, b: u32) -> Result<Notes, Element>
     requires { Ends tree.now.image tree.now.index a b (found e) none }
     ensures { AfterIn tree (found e) a b result }
 {

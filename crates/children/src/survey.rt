@@ -23,8 +23,8 @@ pub struct Outline {
     pub last: Span,
 }
 
-// Whether a foreign element stops a reading, as its last gap says. With a `Result` the printers, which give nothing back, could not hand the error on
-// by `?`, and would stop the planner at it in as many lines.
+// Whether a foreign element stops a reading, as its last gap says. With a `Result` the printers, which give nothing back, could not
+// hand the error on by `?`, and would stop the planner at it in as many lines.
 pub fn is_stopped(o: Outline) -> bool
     ensures { result ≡ is_foreign o.last.end }
 {

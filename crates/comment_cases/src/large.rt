@@ -40,8 +40,8 @@ fn checksum(records: &[u32], texts: &[u8], c: Size) -> u64 {
         .fold(sum, |sum, b| mixed(sum, *b as u32))
 }
 
-// A token at one place prints so many records and text bytes, with this checksum. That of `replay` compares items: as a closure handed to one function of both,
-// each comparison would be as long as this.
+// A token at one place prints so many records and text bytes, with this checksum. That of `replay` compares items: one function of both
+// would take a closure of four parameters for what follows the first statement.
 fn agrees_at(
     records: &mut [u32],
     texts: &mut [u8],

@@ -22,9 +22,9 @@ pub struct Count {
     pub marks: u32,
 }
 
-// How much is put: records, bytes of their texts and, where the records are listed, of the lines that list them, else 0. With an `Option` for these bytes
-// each sum and each test of a size would ask what one function asks now (`line_if`). Printing gives an `Option<Size>`: none where it is full, since a
-// number of the size or an operand would no longer fit 32 bits.
+// How much is put: records, bytes of their texts and, where the records are listed, of the lines that list them, else 0. With an `Option`
+// for these bytes each sum and each test of a size would ask what one function asks now (`line_if`). Printing gives an `Option<Size>`: none
+// where it is full, since a number of the size or an operand would no longer fit 32 bits.
 #[derive(Clone, Copy)]
 pub struct Size {
     pub records: u32,

@@ -1,5 +1,5 @@
-// The texts of the formatter's own, by their numbers, which operations have as operands. A number comes out of a packed table or is one of these constants,
-// so that it is no type of its own: planners ask that it is one of `WORDS`.
+// The texts of the formatter's own, by their numbers, which operations have as operands. A number comes out of a packed table or is one of
+// these constants, so that it is no type of its own: planners ask that it is one of `WORDS`.
 ghost use Rattle.std.specs.Prelude.{◌≡◌, ◌≤◌};
 ghost use Rattle.text.specs.Basic.{ascii};
 ghost use Rattle.text.specs.Words.{joined_words, word_start};

@@ -63,7 +63,8 @@ impl<'a> Node<'a> {
         bounds_between(self.tree, start, end, self.start(), self.end())
     }
 
-    // The marks of its parts, or all marks, which are not sure, where these are not asked for: what a number of marks tells goes by the node and by that.
+    // The marks of its parts, or all marks, which are not sure, where these are not asked for: what a number of marks tells goes by the
+    // node and by that.
     pub fn marks_in(self, asked: bool) -> u64
         ensures { Marks (parts_in self.entry) asked result }
     {
