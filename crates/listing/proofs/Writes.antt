@@ -1,10 +1,10 @@
 -- Promises of functions that write bytes, put together.
 use mathlib.Core.Path.{◌≡◌, refl, sym, ap, ◌∙◌}
-use mathlib.Core.List.{List, [], ◌++◌}
-use Prim.Native.Nat.{ℕ}
+use mathlib.Core.List.{List, [], ◌∷◌, ◌++◌}
+use Prim.Native.Nat.{ℕ, ◌+◌}
 use native.Mathlib.Omega.{arith}
 use native.Mathlib.Nat.{add-zero}
-use lib.ListN.{length, length-append}
+use lib.ListN.{length, set, length-append}
 use lib.Seq.{length-sets}
 use Rattle.items.specs.Machine.{store}
 use Rattle.items.proofs.Fits.{store-append}
@@ -16,6 +16,18 @@ pub kept : {bs : List ℕ} {o a : Page} → Writes bs o a → length a.buffer �
 unfolding store
 kept {bs} {o} h = ap length h.stored ∙ length-sets o.buffer o.place bs
 
+-- one byte that is stored at its place
+pub one_byte : {b b' : List ℕ} {n x : ℕ} → b' ≡ set b n x → Writes (x ∷ []) (page b n) (page b' (n + 1))
+unfolding store
+one_byte e = record { counted = refl; stored = e }
+
+-- some bytes, and then others
+pub writes_both : {us vs : List ℕ} {o a b : Page} → Writes us o a → Writes vs a b → Writes (us ++ vs) o b
+writes_both {us} {vs} {o} h k = record {
+  counted = rw (length-append us vs) (omega (arith, h.counted, k.counted));
+  stored = k.stored ∙ rw (h.stored, h.counted) (store-append us vs o.buffer o.place);
+}
+
 -- ---- sheets
 
 -- nothing written
@@ -26,13 +38,7 @@ blank = record { written = record { counted = sym (add-zero _); stored = refl };
 infixr 40 ◌▸◌
 -- some bytes, and then others
 pub ◌▸◌ : {us vs : List ℕ} {o a b : Sheet} → Fills us o a → Fills vs a b → Fills (us ++ vs) o b
-◌▸◌ {us} {vs} {o} h k = record {
-  written = record {
-    counted = rw (length-append us vs) (omega (arith, h.written.counted, k.written.counted));
-    stored = k.written.stored ∙ rw (h.written.stored, h.written.counted) (store-append us vs o.out.now o.at);
-  };
-  lent = k.lent ∙ h.lent;
-}
+h ▸ k = record { written = writes_both h.written k.written; lent = k.lent ∙ h.lent }
 
 -- the same bytes by another name
 pub by : {us vs : List ℕ} {o a : Sheet} → us ≡ vs → Fills vs o a → Fills us o a
@@ -48,10 +54,14 @@ written_in h e = rw e h.written
 pub room-first : {us : List ℕ} (vs : List ℕ) {n : ℕ} → Room (us ++ vs) n → Room us n
 room-first {us} vs r = record { fits = omega (arith, r.fits, length-append us vs) }
 
-infixl 50 ◌⟫◌
 -- for those behind them, once they are written
+pub room-behind : {us vs : List ℕ} {o a : Page} → Room (us ++ vs) o.place → Writes us o a → Room vs a.place
+room-behind {us} {vs} r h = record { fits = omega (arith, r.fits, h.counted, length-append us vs) }
+
+infixl 50 ◌⟫◌
+-- the same on a sheet
 pub ◌⟫◌ : {us vs : List ℕ} {o a : Sheet} → Room (us ++ vs) o.at → Fills us o a → Room vs a.at
-◌⟫◌ {us} {vs} r h = record { fits = omega (arith, r.fits, h.written.counted, length-append us vs) }
+r ⟫ h = room-behind r h.written
 
 -- the same bytes by another name
 pub room_as : {us vs : List ℕ} {n : ℕ} → us ≡ vs → Room us n → Room vs n

@@ -29,6 +29,21 @@ fn digit(n: usize) -> u8
     48 + (n as u8)
 }
 
+// Writes a number in decimal from a place on, and gives the next place. It calls itself, and is lent no sheet: the place would be read from
+// memory for each digit.
+fn put_digits(out: &mut [u8], at: usize, n: usize) -> usize
+    requires { Room (decimal n) at }
+    ensures { WritesIn out at result (decimal n) }
+{
+    if n < 10 {
+        items::put_byte(out, at, digit(n));
+        return at + 1;
+    }
+    let next = put_digits(out, at, n / 10);
+    items::put_byte(out, next, digit(n % 10));
+    next + 1
+}
+
 impl<'a> Sheet<'a> {
     // Writes one byte, if there is room.
     fn put_byte(&mut self, b: u8)
@@ -53,12 +68,7 @@ impl<'a> Sheet<'a> {
         requires { Room (decimal n) self.old.at }
         ensures { WritesOn self (decimal n) }
     {
-        if n < 10 {
-            self.put_byte(digit(n));
-            return;
-        }
-        self.put_decimal(n / 10);
-        self.put_byte(digit(n % 10));
+        self.at = put_digits(self.out, self.at, n);
     }
 
     // Writes the name with a number.

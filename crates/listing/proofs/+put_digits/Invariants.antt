@@ -1,0 +1,5 @@
+use Rattle.listing.proofs.+put_digits.Given as goal
+
+-- the number that is written falls
+abbrev pub decreases-put_digits : goal.decreases-put_digits
+decreases-put_digits l = l.n
