@@ -1,6 +1,7 @@
 -- What the exported function on refusals answers.
-use Rattle.std.specs.Prelude.{List, [], ◌∷◌, ℕ}
+use Rattle.std.specs.Prelude.{◌≡◌, List, [], ◌∷◌, ℕ}
 use Rattle.tree.specs.Answer.{Answer, refused, passed}
+use Rattle.exports.specs.declared.Verdict.{Verdict}
 
 -- document 01's number of the refusal, 0 where there is none
 unfoldable pub number : Answer → ℕ
@@ -20,3 +21,9 @@ second_value (passed n b) = b
 -- both, as they stand in the lent values
 abbrev pub both_values : Answer → List ℕ
 both_values a = first_value a ∷ second_value a ∷ []
+
+-- A verdict has the number and the values of an answer.
+pub record Tells (v : Verdict) (a : Answer) : Type 0 where
+  pub answered : v.0 ≡ number a
+  pub first : v.1 ≡ first_value a
+  pub second : v.2 ≡ second_value a

@@ -8,7 +8,7 @@ ghost use Rattle.comments.specs.Place.{place};
 ghost use Rattle.std.proofs.lemmas.List.Edits.{sets};
 ghost use Rattle.tree.specs.Answer.{said, answer};
 ghost use Rattle.exports.specs.Comment.{location, comment_in, records_of, texts_of, printed_of, code, counts_after};
-ghost use Rattle.exports.specs.Refusal.{number, first_value, second_value, both_values};
+ghost use Rattle.exports.specs.Refusal.{number, both_values, Tells};
 
 use comments::CommentLocation;
 use items::{Output, Size, no_size};
@@ -78,15 +78,15 @@ pub fn tungvesk_comment(
 #[derive(Clone, Copy)]
 struct Verdict(u32, u32, u32);
 
-#[tactic(auto, unfolding(crate::specs::Refusal::number, crate::specs::Refusal::first_value, crate::specs::Refusal::second_value))]
-fn say(t: Result<Accepted, Refusal>) -> Verdict
-    ensures number { result.0 ≡ number (said t) }
-    ensures first { result.1 ≡ first_value (said t) }
-    ensures second { result.2 ≡ second_value (said t) }
-{
-    match t {
-        Err(r) => Verdict(u32::from(r.reason), r.element.0, 0),
-        Ok(a) => Verdict(0, a.elements, a.bytes),
+impl From<Result<Accepted, Refusal>> for Verdict {
+    ghost from_gives = { λ t v. Tells v (said t) };
+
+    #[tactic(auto, unfolding(crate::specs::Refusal::number, crate::specs::Refusal::first_value, crate::specs::Refusal::second_value))]
+    fn from(t: Result<Accepted, Refusal>) -> Verdict {
+        match t {
+            Err(r) => Verdict(u32::from(r.reason), r.element.0, 0),
+            Ok(a) => Verdict(0, a.elements, a.bytes),
+        }
     }
 }
 
@@ -95,7 +95,7 @@ pub fn tungvesk_refusal(image: &[u8], values: &mut [u32; 2]) -> u32
     ensures value { result ≡ number (answer image.now) }
     ensures values_after { values.new ≡ sets values.old 0 (both_values (answer image.now)) }
 {
-    let v = say(tree::refusal(image));
+    let v = Verdict::from(tree::refusal(image));
     values[0] = v.1;
     values[1] = v.2;
     v.0

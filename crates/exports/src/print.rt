@@ -25,50 +25,56 @@ struct Report {
 }
 
 // A refusal, with no counts.
-fn refused(f: Refusal) -> Report
-    ensures { Reports result (refused_for f) }
-{
-    let reason = f.reason;
-    Report {
-        number: u32::from(reason),
-        counts: Count {
-            records: 0,
-            texts: 0,
-            runs: 0,
-            marks: 0,
-        },
-        bytes: 0,
-        element: f.element.0,
+impl From<Refusal> for Report {
+    ghost from_gives = { λ f r. Reports r (refused_for f) };
+
+    fn from(f: Refusal) -> Report {
+        let reason = f.reason;
+        Report {
+            number: u32::from(reason),
+            counts: Count {
+                records: 0,
+                texts: 0,
+                runs: 0,
+                marks: 0,
+            },
+            bytes: 0,
+            element: f.element.0,
+        }
     }
 }
 
 // What a printing answers.
-fn report_of(a: Result<Count, Refusal>) -> Report
-    ensures { Reports result (reply a) }
-{
-    match a {
-        Ok(counts) => Report {
-            number: 0,
-            counts,
-            bytes: 0,
-            element: 0,
-        },
-        Err(f) => refused(f),
+impl From<Result<Count, Refusal>> for Report {
+    ghost from_gives = { λ a r. Reports r (reply a) };
+
+    fn from(a: Result<Count, Refusal>) -> Report {
+        match a {
+            Ok(counts) => Report {
+                number: 0,
+                counts,
+                bytes: 0,
+                element: 0,
+            },
+            Err(f) => Report::from(f),
+        }
     }
 }
 
 // What a printing with its listing answers.
-fn report_listed(a: Result<Listed, Refusal>) -> Report
-    ensures { Reports result (reply_listed a) }
-{
-    match a {
-        Ok(listed) => Report {
-            number: 0,
-            counts: listed.counts,
-            bytes: listed.bytes,
-            element: 0,
-        },
-        Err(f) => refused(f),
+impl From<Result<Listed, Refusal>> for Report {
+    ghost from_gives = { λ a r. Reports r (reply_listed a) };
+
+    fn from(a: Result<Listed, Refusal>) -> Report {
+        match a {
+            Ok(listed) => Report {
+                number: 0,
+                counts: listed.counts,
+                bytes: listed.bytes,
+                element: 0,
+            },
+            Err(f) => Report::from(f),
+        }
     }
 }
 
@@ -89,7 +95,7 @@ pub fn tungvesk_print(
     let Ok(m) = Mode::try_from(mode) else {
         return UNKNOWN_MODE;
     };
-    let r = report_of(formatter::print_items(image, m, records, texts));
+    let r = Report::from(formatter::print_items(image, m, records, texts));
     counts[0] = r.counts.records as u64;
     counts[1] = r.counts.texts as u64;
     counts[2] = r.counts.runs as u64;
@@ -116,7 +122,7 @@ pub fn tungvesk_list(
     let Ok(m) = Mode::try_from(mode) else {
         return UNKNOWN_MODE;
     };
-    let l = report_listed(formatter::list_items(image, m, records, texts, listing));
+    let l = Report::from(formatter::list_items(image, m, records, texts, listing));
     counts[0] = l.counts.records as u64;
     counts[1] = l.counts.texts as u64;
     counts[2] = l.counts.runs as u64;

@@ -10,24 +10,22 @@ use cases::{
     put_all, word, zeros,
 };
 use numbers::Element;
-use numbers::refusal::Refusal;
 use std::io;
+use tree::Tree;
 use tree::class::Kinds;
-use tree::{Accepted, Tree};
 
 // A vector has four fields: its operation, an image, what else is asked, and what is expected.
 const FIELDS: usize = 4;
 
-// The operations.
-const REFUSAL: u16 = 1;
-
-const INDEX: u16 = 2;
-
-const NTH: u16 = 3;
-
-const LAST: u16 = 4;
-
-const PLUS: u16 = 5;
+// The operations, by their numbers in the file.
+#[derive(Clone, Copy)]
+enum Op {
+    Refusal = 1,
+    Index,
+    Nth,
+    Last,
+    Plus,
+}
 
 // Bytes of an expected answer of the tests: the refusal's number, and two for the element.
 const ANSWER: usize = 3;
@@ -42,42 +40,18 @@ const IMAGE: usize = 4096;
 
 const FILE: usize = 524288;
 
-// An answer of the tests: the refusal's number, or 0, and the element.
-#[derive(Clone, Copy, PartialEq, Eq)]
-struct Answer {
-    number: usize,
-    element: usize,
-}
-
-fn answer_of(t: Result<Accepted, Refusal>) -> Answer {
-    match t {
-        Err(r) => Answer {
-            number: u32::from(r.reason) as usize,
-            element: r.element.0 as usize,
-        },
-        Ok(_) => Answer {
-            number: 0,
-            element: 0,
-        },
-    }
-}
-
-// The tests answer as the k-th expected answer says.
+// The tests answer as the k-th expected answer says: with a refusal's number and element, or twice 0 for none.
 fn answers(image: &[u8], want: &[u8], k: usize) -> bool {
     if want.len() / ANSWER <= k {
         return false;
     }
     let w = behind(want, k * ANSWER);
-    let wanted = Answer {
-        number: byte(w, 0) as usize,
-        element: number(behind(w, 1)) as usize,
-    };
-    answer_of(tree::refusal(image)) == wanted
-}
-
-// The number that a search found, and 1 more; 0 where it found none.
-fn place(f: Option<Element>) -> usize {
-    f.map_or(0, |e| e.0 as usize + 1)
+    let reason = byte(w, 0) as u32;
+    let element = number(behind(w, 1)) as u32;
+    match tree::refusal(image) {
+        Err(r) => (u32::from(r.reason) == reason) & (r.element.0 == element),
+        Ok(_) => (reason == 0) & (element == 0),
+    }
 }
 
 // The table begins with these numbers, two bytes each.
@@ -102,7 +76,7 @@ fn wanted(args: &[u8]) -> Kinds
 }
 
 // What an accessor finds among the children of a node.
-fn found(tree: &Tree, op: u16, args: &[u8]) -> Option<Element>
+fn found(tree: &Tree, op: Op, args: &[u8]) -> Option<Element>
     requires { Indexed tree.now.image tree.now.index }
 {
     let node = number(args) as u32;
@@ -113,41 +87,46 @@ fn found(tree: &Tree, op: u16, args: &[u8]) -> Option<Element>
     let b = tree.end_at(node);
     let w = wanted(args);
     match op {
-        NTH => tree.nth_of(w, byte(args, 5) as u32, a, b),
-        LAST => tree.last_of(w, a, b),
+        Op::Nth => tree.nth_of(w, byte(args, 5) as u32, a, b),
+        Op::Last => tree.last_of(w, a, b),
         _ => tree.plus_of(a, b),
     }
 }
 
+// What is expected of an accessor: an element, whose number stands there with 1 added, or none for 0.
+fn element(want: &[u8]) -> Option<u32> {
+    (number(want) as u32).checked_sub(1)
+}
+
 // The answer for an image is the expected one.
-fn agrees(op: u16, image: &[u8], args: &[u8], want: &[u8]) -> bool {
-    if op == REFUSAL {
+fn agrees(op: Op, image: &[u8], args: &[u8], want: &[u8]) -> bool {
+    if let Op::Refusal = op {
         return answers(image, want, 0);
     }
     let mut table = [0u32; TABLE];
     if !tree::index::try_index(image, &mut table) {
         return false;
     }
-    if op == INDEX {
+    if let Op::Index = op {
         return is_table(&table, want);
     }
     let tree = Tree {
         image,
         index: &table,
     };
-    place(found(&tree, op, args)) == number(want) as usize
+    found(&tree, op, args).map(|e| e.0) == element(want)
 }
 
-// The first vector of v is tried, if it is of this operation.
-fn tried(v: &[u8], op: u16, found: Agreement) -> Agreement {
-    if number(nth_field(v, 0)) != op {
+// The vector that v begins with is tried, if it is of this operation.
+fn tried(v: &[u8], op: Op, found: Agreement) -> Agreement {
+    if number(nth_field(v, 0)) != op as u16 {
         return found;
     }
     found.with(agrees(op, nth_field(v, 1), nth_field(v, 2), nth_field(v, 3)))
 }
 
 // The vectors of one operation.
-fn replayed(v: &[u8], op: u16) -> Agreement {
+fn replayed(v: &[u8], op: Op) -> Agreement {
     let mut found = Agreement::none();
     for case in Cases::of(v, FIELDS) {
         found = tried(case, op, found);
@@ -204,11 +183,11 @@ fn damage(rt: &impl Print, v: &[u8]) -> io::Result<()> {
 }
 
 fn replay_all(rt: &impl Print, v: &[u8]) -> io::Result<()> {
-    replayed(v, REFUSAL).print(rt, b"refusals")?;
-    replayed(v, INDEX).print(rt, b"indexes")?;
-    replayed(v, NTH).print(rt, b"n-th parts")?;
-    replayed(v, LAST).print(rt, b"last parts")?;
-    replayed(v, PLUS).print(rt, b"plus signs")
+    replayed(v, Op::Refusal).print(rt, b"refusals")?;
+    replayed(v, Op::Index).print(rt, b"indexes")?;
+    replayed(v, Op::Nth).print(rt, b"n-th parts")?;
+    replayed(v, Op::Last).print(rt, b"last parts")?;
+    replayed(v, Op::Plus).print(rt, b"plus signs")
 }
 
 fn main(rt: HostRuntime) -> io::Result<()> {

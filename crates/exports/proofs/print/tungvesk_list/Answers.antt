@@ -11,7 +11,7 @@ pub returns : goal.returns
 unfolding by_mode
 returns c =
     let e = known c.try_from.ensures c.in-Ok.is in
-    rw (e, ← c.list_items.ensures.value, ← c.report_listed-l.ensures.answered, ← c.report_listed-l.ensures.listed)
+    rw (e, ← c.list_items.ensures.value, ← c.from-l.ensures.answered, ← c.from-l.ensures.listed)
     (record {
       value = refl;
       counts_after = refl;

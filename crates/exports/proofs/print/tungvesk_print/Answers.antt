@@ -11,5 +11,5 @@ pub returns : goal.returns
 unfolding by_mode
 returns c =
     let e = known c.try_from.ensures c.in-Ok.is in
-    rw (e, ← c.print_items.ensures.value, ← c.report_of-r.ensures.answered, ← c.report_of-r.ensures.valued)
+    rw (e, ← c.print_items.ensures.value, ← c.from-r.ensures.answered, ← c.from-r.ensures.valued)
     (record { value = refl; counts_after = refl; records_after = c.print_items.ensures.records_after; texts_after = c.print_items.ensures.texts_after })

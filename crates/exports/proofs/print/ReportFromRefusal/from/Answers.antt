@@ -1,7 +1,7 @@
 use mathlib.Core.Path.{refl}
 use Rattle.exports.specs.Print.{number, values, values_listed}
 use Rattle.exports.proofs.Answers.{by_number}
-use Rattle.exports.proofs.print.refused.Goals as goal
+use Rattle.exports.proofs.print.ReportFromRefusal.from.Goals as goal
 
 pub returns : goal.returns
 unfolding number values values_listed
