@@ -24,15 +24,16 @@ pub fn line(rt: &impl Print, label: &[u8], n: u64) -> Result<()> {
     println!(rt; " {n}")
 }
 
-impl Agreement {
-    // Before the first answer.
-    pub fn none() -> Self
-        ensures seen { result.seen ≡ 0 }
-        ensures right { result.right ≡ 0 }
-    {
+// Before the first answer.
+impl Default for Agreement {
+    ghost is_default = { λ a. a ≡ record { seen = 0; right = 0 } };
+
+    fn default() -> Self {
         Agreement { seen: 0, right: 0 }
     }
+}
 
+impl Agreement {
     // One answer more.
     pub fn with(self, agrees: bool) -> Self
         ensures seen { result.seen ≡ more_if self.seen true }

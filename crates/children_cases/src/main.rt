@@ -112,7 +112,7 @@ fn counted(s: Sample, agrees: bool) -> Sample {
 
 fn replayed(v: &[u8]) -> Sample {
     let mut s = Sample {
-        found: Agreement::none(),
+        found: Agreement::default(),
         before: 0,
     };
     for case in Cases::of(v, FIELDS) {

@@ -99,7 +99,7 @@ fn case_agrees(records: &mut [u32], texts: &mut [u8], v: &[u8]) -> bool {
 
 // All cases of v.
 pub fn replayed(records: &mut [u32], texts: &mut [u8], v: &[u8]) -> Agreement {
-    let mut found = Agreement::none();
+    let mut found = Agreement::default();
     for case in Cases::of(v, FIELDS) {
         found = found.with(case_agrees(records, texts, case));
     }

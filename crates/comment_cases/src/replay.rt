@@ -162,7 +162,7 @@ fn tried(
 
 // The tokens of one kind.
 pub fn replayed(records: &mut [u32], texts: &mut [u8], v: &[u8], kind: u32) -> Agreement {
-    let mut found = Agreement::none();
+    let mut found = Agreement::default();
     for case in Cases::of(v, FIELDS) {
         found = tried(records, texts, case, kind, found);
     }

@@ -115,7 +115,7 @@ fn tried(v: &[u8], op: Op, found: Agreement) -> Agreement {
 
 // The vectors of one operation.
 fn replayed(v: &[u8], op: Op) -> Agreement {
-    let mut found = Agreement::none();
+    let mut found = Agreement::default();
     for case in Cases::of(v, FIELDS) {
         found = tried(case, op, found);
     }
