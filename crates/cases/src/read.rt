@@ -10,7 +10,7 @@ pub fn byte(s: &[u8], at: usize) -> u8
     s.get(at).copied().unwrap_or(0)
 }
 
-// The word at a place, 0 past the end.
+// The word at a place, 0 past the end: `byte` for another type, since no bound on a type says that its default is the number 0.
 pub fn word(t: &[u32], at: usize) -> u32
     ensures { result ≡ slice_index t.now at }
 {
