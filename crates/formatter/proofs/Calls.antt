@@ -41,7 +41,7 @@ use Rattle.std.specs.declared.option.Option as std
 use Rattle.std.specs.declared.option.Option.TheVariants.{Some, None}
 use Rattle.std.specs.declared.result.Result.{Result}
 use Rattle.std.specs.declared.result.Result.TheVariants.{Ok, Err}
-use Rattle.std.specs.Prelude.{is_some, IsErrAnd}
+use Rattle.std.specs.Prelude.{IsErrAnd}
 use Rattle.formatter.specs.Reply.{ListAnswer, reply, reply_listed, reply_to}
 use Rattle.formatter.specs.declared.serve.Wanted.{Wanted}
 use Rattle.formatter.specs.declared.serve.Buffers.{Buffers}
@@ -197,11 +197,6 @@ module _ {w : Wanted} {image : List ℕ} {b b' : Buffers} where
   -- the same with room that implies the other's
   pub attempted-as : {x y : Type 0} {r : std.Option ListAnswer} → (y → x) → Attempted x w image b b' r → Attempted y w image b b' r
   attempted-as f h = record { answers = h.answers; fills = λ e. let (n, k) = h.fills e in (λ x. n (f x), k) }
-
-  -- where there is room, an answer
-  pub answering : {room : Type 0} (a : std.Option ListAnswer) → Attempted room w image b b' a → room → is_some a ≡ true
-  answering (Some r) h x = refl
-  answering None h x = absurd ((h.fills refl).0 x)
 
   -- a second attempt where the first was full
   pub after-full : {room : Type 0} {a : std.Option ListAnswer} → Attempted room w image b b' a → a ≡ None → {b'' : Buffers} {r : ListAnswer} → Serves w image b' b'' r → Serves w image b b'' r

@@ -42,9 +42,6 @@ module _ (rs ts : List ℕ) (n : ℕ) where
   abbrev pub Lining : Sheet → Sheet → ℕ → Type 0
   Lining o a i = Writing (lines_from rs ts 0 n) (lines_from rs ts i (n - i)) o a
 
-  pub lines_none : (o : Sheet) → Lining o o 0
-  lines_none o = let e : n - 0 ≡ n = omega arith in rw e (writing_none _ o)
-
   pub lines_more : {o a b : Sheet} (i : ℕ) → Lining o a i → i < n → Fills (line_at rs ts i) a b → Lining o b (i + 1)
   lines_more i g h k = writing_more g (lines_next rs ts n i h) k
 

@@ -3,14 +3,8 @@ use mathlib.Core.Path.{refl}
 use Rattle.formatter.proofs.Calls.{most-small, ready_by, few-sized, attempted-as}
 use Rattle.formatter.proofs.serve.+attempt_sized.Goals as goal
 
-pub overflow_mul-size : goal.overflow_mul-size
-overflow_mul-size t c = record { fits = omega (arith, few-sized _ c.requires.passed, c.element_count.ensures, c.if-size-element_count.true) }
-
 pub attempt_sized-requires : goal.attempt_sized-requires
 attempt_sized-requires t c = (omega (arith, c.decreases, c.requires.positive, few-sized _ c.requires.passed, c.element_count.ensures, c.if-size-element_count.true), (c.requires.passed, omega (arith, c.requires.positive)))
-
-pub returns-then-size-element_count : goal.returns-then-size-element_count
-returns-then-size-element_count t c = attempted-as (λ l. omega arith) c.attempt_sized.ensures
 
 pub attempt-requires-in_default-clause-ready : goal.attempt-requires-in_default-clause-ready
 attempt-requires-in_default-clause-ready t c = ready_by c.requires.passed refl (few-sized _ c.requires.passed) refl

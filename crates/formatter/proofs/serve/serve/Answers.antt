@@ -9,6 +9,3 @@ serve_passed-requires c = (passing _ _ _ (ap said (sym c.in-Ok.is) ∙ c.refusal
 
 pub returns-in-Err : goal.returns-in-Err
 returns-in-Err c = lent-still refl refl refl (refused-by _ _ _ _ _ _ c.in-Err.is refl c.refusal.ensures)
-
-pub returns-in-Ok : goal.returns-in-Ok
-returns-in-Ok c = c.serve_passed.ensures

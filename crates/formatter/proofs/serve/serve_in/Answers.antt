@@ -3,10 +3,6 @@ use Rattle.std.specs.declared.result.Result.TheVariants.{Err}
 use Rattle.formatter.proofs.Calls.{stops, answered-by, lent-still}
 use Rattle.formatter.proofs.serve.serve_in.Goals as goal
 
-pub index-requires : goal.index-requires
-index-requires c =
-    let r = c.requires in record { passed = r.passed; room = r.tabled }
-
 pub serve_planned-requires : goal.serve_planned-requires
 serve_planned-requires c = c.plan_tree.ensures.prints _ c.in-Ok.is
 

@@ -1,8 +1,5 @@
-use Rattle.listing.proofs.Writing.{lines_none, lines_more, lines-all, lines-room}
+use Rattle.listing.proofs.Writing.{lines_more, lines-all, lines-room}
 use Rattle.listing.proofs.Sheet.put_lines.Goals as goal
-
-pub loop-i-init : goal.loop-i-init
-loop-i-init c = lines_none _ _ _ _
 
 pub put_line-requires : goal.put_line-requires
 put_line-requires c = record { known = c.requires.known _ c.loop-i-test.true; room = lines-room _ _ _ _ c.loop-i.invariant c.loop-i-test.true c.requires.room }
