@@ -1,13 +1,13 @@
--- What holds of an answer: the buffers that come back, their items put back, the counts, the bound.
-use mathlib.Core.Path.{◌≡◌, refl}
+-- What holds of an answer: the buffers that come back, their items put back, the counts, the bound; and that a listing can be read back.
+use mathlib.Core.Path.{◌≡◌, refl, sym, ap, ◌∙◌}
 use mathlib.Core.Bool.{Bool, true, false, cond}
 use mathlib.Core.Option.{Option, none, some}
 use mathlib.Core.List.{List}
 use Prim.Native.Nat.{ℕ, ◌*◌}
 use native.Mathlib.Omega.{arith}
 use lib.Dec.{ltb}
-use lib.ListN.{length, drop}
-use lib.Seq.{drop-append_seam}
+use lib.ListN.{length, take, drop}
+use lib.Seq.{take-append_seam, drop-append_seam}
 use Rattle.numbers.specs.declared.mode.Mode.{Mode}
 use Rattle.items.specs.Item.{Item, Out, stop, ok, in_mode}
 use Rattle.items.specs.Role.{runs_of, marks_of}
@@ -17,11 +17,13 @@ use Rattle.tree.specs.Tree.{tree_of}
 use Rattle.tree.specs.Refusal.{Refusal, refusal}
 use Rattle.tree.proofs.Passing.{Accepted, accepted}
 use Rattle.listing.specs.Listing.{listing}
+use Rattle.listing.specs.Unlisted.{unlisted}
+use Rattle.listing.proofs.Unlisted.{unlisted_is}
 use Rattle.printer.specs.Print.{source_file}
 use Rattle.items.specs.declared.Count.{Count}
 use Rattle.formatter.specs.PutBack.{put_back}
 use Rattle.formatter.specs.Plain.{plain_file}
-use Rattle.formatter.specs.Answered.{Answered}
+use Rattle.formatter.specs.Answered.{Answered, ReadBack}
 use Rattle.formatter.proofs.Agree.{Same, gives, agree}
 use Rattle.formatter.proofs.Counted.{records-bound}
 use Rattle.formatter.specs.Answer.{Verdict, turned_away, printed, from_printing, from_tests, verdict, with_room, with_listing, ruling, refused, done, length_of, answer_of, answer, buffer_of, records_after, texts_after, listing_after}
@@ -110,6 +112,27 @@ answered m image rs ts ls c n h = let (xs, v, e, _) = answer-printed ls (ruling 
       marks = rw e p.pairs;
       bound = rw e (rw p.prints at (records-bound p.accepts (in_mode m)));
     }
+
+-- what is written stands in front
+front : (n : ℕ) (ws buffer : List ℕ) → length ws ≡ n → take n (overlaid ws buffer) ≡ ws
+front n ws buffer e = rw (← e) (take-append_seam ws (drop (length ws) buffer))
+
+-- what an answer with a listing says of the buffers that come back
+pub read_back :
+    (m : Mode) (image rs ts ls : List ℕ) (c : Count) (n : ℕ) → answer m image rs ts (some ls) ≡ done c (some n)
+    → ReadBack (records_after m image rs ts (some ls)) (texts_after m image rs ts (some ls)) (listing_after m image rs ts ls) c n
+unfolding answer records_after texts_after listing_after buffer_of
+read_back m image rs ts ls c n h = let (xs, v, e, l) = answer-printed (some ls) (ruling m image rs ts (some ls)) c (some n) h in go xs v e cc
+  where
+    go : (xs : List Item) → ruling m image rs ts (some ls) ≡ printed xs → c ≡ counts_of xs → length (listing xs) ≡ n
+        → ReadBack (records_after m image rs ts (some ls)) (texts_after m image rs ts (some ls)) (listing_after m image rs ts ls) c n
+    go xs v e l =
+        let u : unlisted (take n (overlaid (listing xs) ls)) ≡ xs = ap unlisted (front n (listing xs) ls l) ∙ unlisted_is xs in
+        rw (v, e) (record {
+          counts = ap counts_of (sym u);
+          records = front (record_size * length xs) (words 0 xs) rs (words-length 0 xs) ∙ ap (words 0) (sym u);
+          texts = front (length (bytes xs)) (bytes xs) ts refl ∙ ap bytes (sym u);
+        })
 
 -- 'Buffers are written only after all tests': a refusal leaves each as it was
 pub untouched :

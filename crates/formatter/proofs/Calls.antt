@@ -36,7 +36,7 @@ use Rattle.listing.proofs.Listable.{items_are, listable}
 use Rattle.items.specs.declared.Count.{Count}
 use Rattle.plan.specs.declared.Plan.{Plan}
 use Rattle.formatter.specs.Answer.{Verdict, turned_away, printed, from_printing, from_tests, verdict, with_room, with_listing, ruling, Answer, refused, done, answer_of, answer, buffer_of, records_after, texts_after, listing_after}
-use Rattle.formatter.specs.Answered.{Answered}
+use Rattle.formatter.specs.Answered.{Answered, ReadBack}
 use Rattle.std.specs.declared.option.Option as std
 use Rattle.std.specs.declared.option.Option.TheVariants.{Some, None}
 use Rattle.std.specs.declared.result.Result.{Result}
@@ -49,7 +49,7 @@ use Rattle.formatter.specs.Calls.{asked, Served, Serves, Attempted, most_records
 use Rattle.formatter.proofs.Counted.{records-bound, texts-bound}
 use Rattle.formatter.proofs.Fitted.{one-mark, sum_le, items-fit}
 use Rattle.formatter.proofs.Agree.{agree}
-use Rattle.formatter.proofs.Answering.{same_ok, answered}
+use Rattle.formatter.proofs.Answering.{same_ok, answered, read_back}
 
 -- ---- what the tests say
 
@@ -343,6 +343,13 @@ module _ {m : Mode} {image rs ts ls rs' ts' ls' rs'' ts'' : List ℕ} {listed : 
   pub stated-list : listed ≡ true → {ls'' : List ℕ} → ls'' ≡ ls'
       → (b ≡ answer m image rs ts (some ls)) × ((rs'' ≡ records_after m image rs ts (some ls)) × ((ts'' ≡ texts_after m image rs ts (some ls)) × ((ls'' ≡ listing_after m image rs ts ls) × ((c : Count) (n : Option ℕ) → b ≡ done c n → Answered m image rs'' ts'' c))))
   stated-list j f = let k : asked listed ls ≡ some ls = rw j refl in (rw (← k) (i ∙ h.answers), (rw (← k) (d ∙ h.records), (rw (← k) (e ∙ h.texts), (f ∙ h.listing ∙ rw j refl, holds))))
+
+  -- what holds of them with a listing
+  pub reads-back : listed ≡ true → {ls'' : List ℕ} → ls'' ≡ ls' → (c : Count) (n : ℕ) → b ≡ done c (some n) → ReadBack rs'' ts'' ls'' c n
+  reads-back j f c n k =
+      let l : asked listed ls ≡ some ls = rw j refl in
+      let g : ls' ≡ listing_after m image rs ts ls = h.listing ∙ rw j refl in
+      rw (d, e, f, h.records, h.texts, g, l) (read_back m image rs ts ls c n (rw l at (sym h.answers ∙ sym i ∙ k)))
 
 -- the answer of the call that lists
 pub listed-reply : (r : ListAnswer) → reply_listed r ≡ reply_to true r

@@ -25,7 +25,7 @@ use Rattle.plan.specs.Comments.{comments}
 use Rattle.printer.specs.Layout.{rows, pick}
 use Rattle.printer.specs.Combine.{comma, test_of, bracketed}
 use Rattle.printer.specs.Print.{shared, indented, part_or, what, row, with_comments, children, list, local_of, statement, statements, statements_of, values, values_of, expression, element, prints, source_of, source, source_file}
-use Rattle.items.specs.Lines.{digits, decimal, described, record_lines, kind_names}
+use Rattle.items.specs.Lines.{digits, decimal, escaped_byte, escaped, described, record_lines, kind_names}
 use Rattle.listing.specs.Listing.{head_line, listing}
 use Rattle.listing.specs.Examples.{one_items}
 use Rattle.formatter.specs.Answer.{Verdict, turned_away, printed, from_printing, from_tests, verdict, with_room, with_listing, ruling}
@@ -97,5 +97,5 @@ one-printed = first_of examples_hold
 
 -- what the program prints of the image of `[1]`, byte for byte
 pub one-response : response Plain one_image ≡ one_listing
-unfolding response judged ruling with_room with_listing printed_of kind_names digits decimal described record_lines head_line listing bytes sum flatten
+unfolding response judged ruling with_room with_listing printed_of kind_names digits decimal escaped_byte escaped described record_lines head_line listing bytes sum flatten
 one-response = rw (one-printed, blank-long, blank-long, blank-long)

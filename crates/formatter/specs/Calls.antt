@@ -27,7 +27,7 @@ use Rattle.plan.specs.declared.Plan.{Plan}
 use Rattle.plan.specs.declared.Halt.{Halt}
 use Rattle.plan.specs.declared.Halt.TheVariants.{Stopped, Full}
 use Rattle.formatter.specs.Answer.{Answer, done, answer, records_after, texts_after, listing_after}
-use Rattle.formatter.specs.Answered.{Answered}
+use Rattle.formatter.specs.Answered.{Answered, ReadBack}
 use Rattle.formatter.specs.Reply.{ListAnswer, reply_to}
 
 -- ---- the entries
@@ -54,6 +54,10 @@ listed listing = some listing.entry.now
 -- what holds of the buffers that come back, where the answer has counts
 abbrev pub AnsweredIn : Lent → Mode → LentMut → LentMut → Answer → Type 0
 AnsweredIn image m records texts a = (c : Count) (n : Option ℕ) → a ≡ done c n → Answered m image.entry.now records.exit.now texts.exit.now c
+
+-- and where it has the length of a listing
+abbrev pub ReadBackIn : LentMut → LentMut → LentMut → Answer → Type 0
+ReadBackIn records texts listing a = (c : Count) (n : ℕ) → a ≡ done c (some n) → ReadBack records.exit.now texts.exit.now listing.exit.now c n
 
 -- ---- both at once
 

@@ -7,7 +7,7 @@ mod serve;
 ghost use Rattle.std.specs.Prelude.{◌≡◌};
 ghost use Rattle.std.proofs.Math.Option.{none};
 ghost use Rattle.formatter.specs.Reply.{reply, reply_listed};
-ghost use Rattle.formatter.specs.Calls.{answer_in, records_in, texts_in, listing_in, listed, AnsweredIn};
+ghost use Rattle.formatter.specs.Calls.{answer_in, records_in, texts_in, listing_in, listed, AnsweredIn, ReadBackIn};
 
 use items::Count;
 use numbers::mode::Mode;
@@ -57,6 +57,7 @@ pub fn list_items(
     ensures texts_after { texts.new ≡ texts_in image mode records texts (listed listing) }
     ensures listing_after { listing.new ≡ listing_in image mode records texts listing }
     ensures answered { AnsweredIn image mode records texts (reply_listed result) }
+    ensures read_back { ReadBackIn records texts listing (reply_listed result) }
 {
     let mut buffers = Buffers::new(records, texts, listing);
     let wanted = Wanted { mode, listed: true };

@@ -2,6 +2,7 @@
 pub mod Decimals
 pub mod Decoding
 pub mod Emits
+pub mod Escapes
 pub mod Fits
 pub mod Laws
 pub mod Lengths

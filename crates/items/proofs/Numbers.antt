@@ -12,7 +12,7 @@ use Rattle.items.specs.declared.Entry.{Entry}
 use Rattle.items.specs.Machine.{fit, size_after}
 use Rattle.items.proofs.Fits.{fit_true, fits_below}
 use Rattle.items.specs.declared.Size.{Size}
-use Rattle.items.specs.Entry.{InRange, line_of, grown_by, store_entry, room_for, continued, recorded}
+use Rattle.items.specs.Entry.{RoomAfter, line_of, grown_by, store_entry, room_for, continued, recorded}
 
 -- the largest of n and the numbers after it
 abbrev most : ℕ → List ℕ → ℕ
@@ -32,12 +32,9 @@ misfits n (m ∷ ms) h = go (ltb n (2 ^ 32)) refl (misfits m ms)
     go true e f = f (omega (arith, ltb-true n (2 ^ 32) e))
     go false e f = refl
 
--- a length or an operand that does not fit is met among the numbers that must fit
-over : (l f s r t n : ℕ) → 2 ^ 32 ≤ max l (max f s) → l ≤ t → 2 ^ 32 ≤ max f (max s (max r (max t n)))
-over l f s r t n h k = omega arith
-
-under : (l f s n : ℕ) → max l (max f s) < 2 ^ 32 → n < 2 ^ 32 → max f (max s n) < 2 ^ 32
-under l f s n h k = omega arith
+-- of the numbers that must fit, the operands do
+under : (f s n : ℕ) → f < 2 ^ 32 → s < 2 ^ 32 → n < 2 ^ 32 → max f (max s n) < 2 ^ 32
+under f s n h i k = omega arith
 
 beyond : (f s n : ℕ) → 2 ^ 32 ≤ n → 2 ^ 32 ≤ max f (max s n)
 beyond f s n h = omega arith
@@ -50,33 +47,28 @@ module _ (e : Entry) (p : Size) where
   abbrev others : List ℕ
   others = e.second ∷ (p.records + 1) ∷ (p.texts + e.bytes) ∷ (p.lines + line) ∷ []
 
-  ranged : All (λ m. m < 2 ^ 32) (e.first ∷ others) → InRange line e p
-  ranged (f ▹ s ▹ r ▹ t ▹ l ▹ ∅) = record { first = f; second = s; after = record { records = r; texts = t; lines = l } }
+  roomy : All (λ m. m < 2 ^ 32) (e.first ∷ others) → (e.second < 2 ^ 32) × RoomAfter e.bytes line p
+  roomy (f ▹ s ▹ r ▹ t ▹ l ▹ ∅) = (s, record { records = r; texts = t; lines = l })
 
-  -- where its numbers fit, an entry is in range
-  pub in-range-of : fit (e.first ∷ others) ≡ true → InRange line e p
-  in-range-of h = ranged (fits_below _ h)
+  -- where its numbers fit, there is room for an entry
+  pub room-of : fit (e.first ∷ others) ≡ true → (e.second < 2 ^ 32) × RoomAfter e.bytes line p
+  room-of h = roomy (fits_below _ h)
 
-  -- the largest of what an entry brings, and of the size after it
-  abbrev brought : ℕ
-  brought = max e.bytes (max e.first e.second)
+  -- where the second operand does not, it cannot be counted
+  pub second-full : 2 ^ 32 ≤ e.second → fit (e.first ∷ others) ≡ false
+  second-full h = misfits e.first others (omega arith)
 
+  -- the largest number of the size after it
   abbrev grown : ℕ
   grown = max (p.records + 1) (max (p.texts + e.bytes) (p.lines + line))
 
-  no_room : 2 ^ 32 ≤ most e.first others → None ≡ room_for e p
-  unfolding room_for
-  no_room h = rw (misfits e.first others h)
-
-  pub brought-full : {m : ℕ} → m ≡ brought → 2 ^ 32 ≤ m → None ≡ room_for e p
-  brought-full q h = no_room (over e.bytes e.first e.second _ (p.texts + e.bytes) _ (rw q at h) (omega arith))
-
   pub grown-full : {m : ℕ} → m ≡ grown → 2 ^ 32 ≤ m → None ≡ room_for e p
-  grown-full q h = no_room (beyond e.first e.second grown (rw q at h))
-
-  pub room-line : {l m n : ℕ} → l ≡ line → m ≡ brought → m < 2 ^ 32 → n ≡ grown → n < 2 ^ 32 → Some l ≡ room_for e p
   unfolding room_for
-  room-line o f g q h = rw (o, fit_true (below e.first others (under e.bytes e.first e.second grown (rw f at g) (rw q at h))))
+  grown-full q h = rw (misfits e.first others (beyond e.first e.second grown (rw q at h)))
+
+  pub room-line : {l n : ℕ} → l ≡ line → e.first < 2 ^ 32 → e.second < 2 ^ 32 → n ≡ grown → n < 2 ^ 32 → Some l ≡ room_for e p
+  unfolding room_for
+  room-line o f s q h = rw (o, fit_true (below e.first others (under e.first e.second grown f s (rw q at h))))
 
   -- what the room for an entry says
   module _ (r : Option ℕ) (is : r ≡ room_for e p) where
@@ -97,8 +89,8 @@ module _ (e : Entry) (p : Size) where
           go true q k = (cc, q)
           go false q k = let z : ◌≡◌ {A = ℕ} 0 1 = cc in absurd (omega arith)
 
-      pub in-range : InRange l e p
-      in-range = rw fitted.0 (in-range-of fitted.1)
+      pub has-room : RoomAfter e.bytes l p
+      has-room = rw fitted.0 (room-of fitted.1).1
 
       pub goes_on : {o : Option Size} {d : Size} (rs : List ℕ) {rs' : List ℕ} → o ≡ Some p → d ≡ size_after e.bytes l p → rs' ≡ store_entry e p rs → (Some d ≡ continued e o) × (rs' ≡ recorded e o rs)
       unfolding continued recorded

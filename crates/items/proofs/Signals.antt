@@ -16,7 +16,7 @@ use Rattle.items.specs.Records.{item_of}
 -- Its record decodes to it, and its line has its name alone.
 pub record Plain (s : Signal) : Type 0 where
   pub decodes : (ts : List ℕ) → item_of ts (signal_kind s) 0 0 ≡ some (signal s)
-  pub named : described_length (signal_kind s) 0 0 ≡ length (ascii (word_in kind_names (signal_kind s)))
+  pub named : described_length (signal_kind s) 0 0 0 ≡ length (ascii (word_in kind_names (signal_kind s)))
 
 pub plain : (s : Signal) → Plain s
 unfolding item_of described_length name_at names_of

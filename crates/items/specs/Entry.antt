@@ -1,28 +1,32 @@
 -- What the functions that emit, and those that advance a size, are handed and promise. Only contracts of private functions cite this.
-use Rattle.std.specs.Prelude.{◌≡◌, cond, List, ℕ, ◌+◌, ◌<◌, ◌^◌, length, Option, Some, None}
+use Rattle.std.specs.Prelude.{◌≡◌, Bool, cond, List, ℕ, ◌+◌, ◌<◌, ◌^◌, length, Option, Some, None}
+use Rattle.std.specs.List.{count_by}
 use Rattle.items.specs.declared.Entry.{Entry}
 use Rattle.items.specs.declared.Output.{Output}
 use Rattle.items.specs.declared.Size.{Size}
 use Rattle.items.specs.Item.{Item}
+use Rattle.items.specs.Lines.{is_escaped}
 use Rattle.items.specs.Names.{line_length}
 use Rattle.items.specs.Records.{record_of, bytes_of}
 use Rattle.items.specs.Machine.{store_record, size_after, countable, Frame}
 
--- an item's entry, where its text would stand at this offset
-abbrev pub entry_of : ℕ → Item → Entry
-entry_of at x = let r = record_of at x in record { kind = r.kind; first = r.first; second = r.second; bytes = length (bytes_of x) }
+-- how many bytes of a text are escaped, counted where records are listed
+abbrev pub escapes_if : Bool → List ℕ → ℕ
+escapes_if listed s = cond listed (count_by is_escaped s) 0
+
+-- an item's entry, where its text would stand at this offset, of records that are listed or not
+abbrev pub entry_of : ℕ → Bool → Item → Entry
+entry_of at listed x =
+    let r = record_of at x in
+    record { kind = r.kind; first = r.first; second = r.second; bytes = length (bytes_of x); escapes = escapes_if listed (bytes_of x) }
 
 -- an entry with no text
 abbrev pub plain_entry : ℕ → ℕ → ℕ → Entry
-plain_entry kind first second = record { kind = kind; first = first; second = second; bytes = 0 }
-
--- that of a text of so many bytes at an offset
-abbrev pub text_entry : ℕ → ℕ → Entry
-text_entry at bytes = record { kind = 1; first = at; second = bytes; bytes = bytes }
+plain_entry kind first second = record { kind = kind; first = first; second = second; bytes = 0; escapes = 0 }
 
 -- the bytes to be counted of an entry's line: none where records are not listed
 abbrev pub line_of : Entry → Size → ℕ
-line_of e p = cond p.listed (line_length p.records e.kind e.first e.second) 0
+line_of e p = cond p.listed (line_length p.records e.kind e.first e.second e.escapes) 0
 
 -- the size after an entry
 abbrev pub grown_by : Entry → Size → Size
@@ -33,12 +37,6 @@ pub record RoomAfter (bytes line : ℕ) (p : Size) : Type 0 where
   pub records : p.records + 1 < 2 ^ 32
   pub texts : p.texts + bytes < 2 ^ 32
   pub lines : p.lines + line < 2 ^ 32
-
--- The operands of an entry are u32s too.
-pub record InRange (line : ℕ) (e : Entry) (p : Size) : Type 0 where
-  pub first : e.first < 2 ^ 32
-  pub second : e.second < 2 ^ 32
-  pub after : RoomAfter e.bytes line p
 
 -- the records with an entry's record at its place
 abbrev pub store_entry : Entry → Size → List ℕ → List ℕ

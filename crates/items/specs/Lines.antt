@@ -1,5 +1,5 @@
 -- The lines that list records: 'Fields are parted by one space, and every line ends with LF.'
-use Rattle.std.specs.Prelude.{cond, List, [], ◌∷◌, ◌++◌, ℕ, zero, suc, ◌+◌, ◌/◌, ◌%◌, ltb, length}
+use Rattle.std.specs.Prelude.{Bool, cond, ◌||◌, List, [], ◌∷◌, ◌++◌, ℕ, zero, suc, ◌+◌, ◌/◌, ◌%◌, ltb, eqb, length}
 use Prim.Native.String.{String}
 use Rattle.text.specs.Basic.{ascii}
 use Rattle.text.specs.Words.{word_in}
@@ -25,9 +25,26 @@ kind_names =
     ∷ "again" ∷ "if always" ∷ "else" ∷ "end-if"
     ∷ []
 
--- 'the kind's name as above, its operands (for text, the length and the text as stored; for if, `always` or `lines` and the mark)'
+-- Document 02, Ask 2: 'Bytes of a text below 32, the byte 127 and the backslash'
+abbrev pub is_escaped : ℕ → Bool
+is_escaped b = ltb b 32 || (eqb b 127 || eqb b 92)
+
+-- of a byte, 'a backslash and three octal digits'
+abbrev pub octal : ℕ → List ℕ
+octal b = 92 ∷ (48 + b / 64) ∷ (48 + b / 8 % 8) ∷ (48 + b % 8) ∷ []
+
+-- what lists a byte of a text; any other byte stays
+unfoldable pub escaped_byte : ℕ → List ℕ
+escaped_byte b = cond (is_escaped b) (octal b) (b ∷ [])
+
+-- what lists a text
+unfoldable pub escaped : List ℕ → List ℕ
+escaped [] = []
+escaped (b ∷ s) = escaped_byte b ++ escaped s
+
+-- 'the kind's name as above, its operands (for text, the length and the text ..; for if, `always` or `lines` and the mark)'; of a text 'the length printed stays the stored one'
 unfoldable pub described : Item → List ℕ
-described (text s) = field "text" (length s) ++ (32 ∷ s)
+described (text s) = field "text" (length s) ++ (32 ∷ escaped s)
 described (signal s) = ascii (word_in kind_names (signal_kind s))
 described (mark n) = field "mark" n
 described (run n) = field "run" n

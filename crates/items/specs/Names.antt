@@ -1,5 +1,5 @@
 -- The names in a listing by their tables and numbers, and the length of a record's line by its words. Only contracts below the entry cite this.
-use Rattle.std.specs.Prelude.{Bool, cond, ◌&&◌, ◌||◌, List, [], ◌∷◌, ℕ, ◌+◌, leb, eqb, length, map}
+use Rattle.std.specs.Prelude.{Bool, cond, ◌&&◌, ◌||◌, List, [], ◌∷◌, ℕ, ◌+◌, ◌*◌, leb, eqb, length, map}
 use Prim.Native.String.{String}
 use Rattle.text.specs.Basic.{ascii}
 use Rattle.text.specs.Words.{word_in}
@@ -28,14 +28,14 @@ name_lengths t = map (λ s. length (ascii s)) (names_of t)
 abbrev pub has_number : ℕ → Bool
 has_number k = eqb k 7 || (leb 12 k && leb k 14)
 
--- how many bytes list a record's kind and operands
-unfoldable pub described_length : ℕ → ℕ → ℕ → ℕ
-described_length k a b =
-    cond (eqb k 1) (length (field (name_at Kinds 1) b) + 1 + b)
+-- how many bytes list a record's kind and operands, and its text, in which so many bytes are escaped: each takes three more
+unfoldable pub described_length : ℕ → ℕ → ℕ → ℕ → ℕ
+described_length k a b escapes =
+    cond (eqb k 1) (length (field (name_at Kinds 1) b) + 1 + b + 3 * escapes)
     (cond (eqb k 15 && eqb a 1) (length (field (name_at Others 0) b))
     (cond (has_number k) (length (field (name_at Kinds k) a))
     (length (ascii (name_at Kinds k)))))
 
 -- how many bytes the line of record n has
-abbrev pub line_length : ℕ → ℕ → ℕ → ℕ → ℕ
-line_length n k a b = length (decimal n) + described_length k a b + 2
+abbrev pub line_length : ℕ → ℕ → ℕ → ℕ → ℕ → ℕ
+line_length n k a b escapes = length (decimal n) + described_length k a b escapes + 2

@@ -7,8 +7,7 @@ pub mod names;
 ghost use Rattle.std.specs.Prelude.{◌≡◌, true, false, cond, [], ◌∷◌, ◌+◌, ◌<◌, ◌≤◌, ◌^◌, length, set};
 ghost use Rattle.items.specs.Item.{plain_item, text, signal, signal_kind};
 ghost use Rattle.items.specs.Machine.{output, SaysIn, PutsIn, all_fit, sized, size_after, store, store_record, no_size};
-ghost use Rattle.items.specs.Entry.{InRange, RoomAfter, entry_of, plain_entry, text_entry, room_for, Emits, store_entry};
-ghost use Rattle.items.specs.Names.{line_length};
+ghost use Rattle.items.specs.Entry.{RoomAfter, entry_of, plain_entry, line_of, grown_by, room_for, Emits, store_entry};
 
 use lines::LINES;
 use numbers::Mark;
@@ -108,17 +107,18 @@ pub const IF_LINES: u32 = 18;
 // Numbers from here on do not fit 32 bits.
 const LIMIT: u64 = 0x1_0000_0000;
 
-// A record, and the bytes of its text.
+// A record, the bytes of its text and, where records are listed, how many of these are escaped.
 #[derive(Clone, Copy)]
 struct Entry {
     kind: u32,
-    first: u64,
-    second: u64,
-    bytes: u64,
+    first: u32,
+    second: u32,
+    bytes: u32,
+    escapes: u32,
 }
 
 // A record with no text.
-fn plain(kind: u32, first: u64, second: u64) -> Entry
+fn plain(kind: u32, first: u32, second: u32) -> Entry
     ensures { result ≡ plain_entry kind first second }
 {
     Entry {
@@ -126,18 +126,23 @@ fn plain(kind: u32, first: u64, second: u64) -> Entry
         first,
         second,
         bytes: 0,
+        escapes: 0,
     }
 }
 
-// A text of so many bytes at an offset.
-fn text_entry(at: u32, bytes: usize) -> Entry
-    ensures { result ≡ text_entry at bytes }
+// The record of a text at an offset. Where records are not listed, no byte of it is looked at.
+fn text_entry(at: u32, listed: bool, s: &[u8]) -> Entry
+    requires { length s.now < 2 ^ 32 }
+    ensures { result ≡ entry_of at listed (text s.now) }
 {
+    let bytes = s.len() as u32;
+    let escapes = if listed { lines::escapes(s) as u32 } else { 0 };
     Entry {
         kind: TEXT,
-        first: at as u64,
-        second: bytes as u64,
-        bytes: bytes as u64,
+        first: at,
+        second: bytes,
+        bytes,
+        escapes,
     }
 }
 
@@ -145,13 +150,13 @@ fn text_entry(at: u32, bytes: usize) -> Entry
 fn plain_entry(kind: u32, n: u32) -> Entry
     requires kind_from { 2 ≤ kind }
     requires kind_to { kind ≤ 18 }
-    ensures { result ≡ entry_of 0 (plain_item kind n) }
+    ensures { result ≡ entry_of 0 false (plain_item kind n) }
 {
     if kind == IF_LINES {
-        return plain(IF, LINES as u64, n as u64);
+        return plain(IF, LINES, n);
     }
     if lines::has_number(kind) {
-        plain(kind, n as u64, 0)
+        plain(kind, n, 0)
     } else {
         plain(kind, 0, 0)
     }
@@ -208,23 +213,23 @@ impl Size {
 
 // Stores a record at the end, and gives the size after it. Its numbers must fit.
 fn put_entry(records: &mut [u32], mut p: Size, e: Entry, line: u32) -> Size
-    requires { InRange line e p }
+    requires { RoomAfter e.bytes line p }
     ensures value { result ≡ size_after e.bytes line p }
     ensures records_after { records.new ≡ store_entry e p records.old }
 {
-    put_record(records, p.records, e.kind, e.first as u32, e.second as u32);
-    p.advance(e.bytes as u32, line);
+    put_record(records, p.records, e.kind, e.first, e.second);
+    p.advance(e.bytes, line);
     p
 }
 
 // The bytes of a record's line, where records are listed.
-fn line_if(listed: bool, n: u32, kind: u32, first: u32, second: u32) -> u64
-    ensures { result ≡ cond listed (line_length n kind first second) 0 }
+fn line_if(e: Entry, p: Size) -> u64
+    ensures { result ≡ line_of e p }
 {
-    if !listed {
+    if !p.listed {
         return 0;
     }
-    lines::line_length(n, kind, first, second)
+    lines::line_length(p.records, e.kind, e.first, e.second, e.escapes)
 }
 
 // Puts a text, also one of no bytes, behind what was put. Its numbers must fit, of which no type tells, since that goes by the item and by
@@ -236,7 +241,7 @@ pub fn put_text(records: &mut [u32], texts: &mut [u8], s: &[u8], p: Size) -> Siz
     ensures { PutsIn records texts p result (text s.now ∷ []) }
 {
     put_bytes(texts, p.texts as usize, s);
-    put_entry(records, p, text_entry(p.texts, s.len()), 0)
+    put_entry(records, p, text_entry(p.texts, false, s), 0)
 }
 
 // Puts an item without a text, by its kind and its number. Its numbers must fit, and no line is counted.
@@ -250,28 +255,32 @@ pub fn put_plain(records: &mut [u32], texts: &mut [u8], kind: u32, n: u32, p: Si
     put_entry(records, p, plain_entry(kind, n), 0)
 }
 
-// The size after a text. Its numbers must fit.
-pub fn count_text(s: &[u8], mut p: Size) -> Size
-    requires { all_fit (text s.now ∷ []) p ≡ true }
-    ensures { result ≡ sized (text s.now ∷ []) p }
+// The size after a record that is put into no buffer. Its numbers must fit.
+fn count_entry(e: Entry, mut p: Size) -> Size
+    requires { RoomAfter e.bytes (line_of e p) p }
+    ensures { result ≡ grown_by e p }
 {
-    let bytes = s.len() as u32;
-    let line = line_if(p.listed, p.records, TEXT, p.texts, bytes);
-    p.advance(bytes, line as u32);
+    let line = line_if(e, p);
+    p.advance(e.bytes, line as u32);
     p
 }
 
+// The size after a text. Its numbers must fit.
+pub fn count_text(s: &[u8], p: Size) -> Size
+    requires { all_fit (text s.now ∷ []) p ≡ true }
+    ensures { result ≡ sized (text s.now ∷ []) p }
+{
+    count_entry(text_entry(p.texts, p.listed, s), p)
+}
+
 // The size after an item without a text. Its numbers must fit.
-pub fn count_plain(kind: u32, n: u32, mut p: Size) -> Size
+pub fn count_plain(kind: u32, n: u32, p: Size) -> Size
     requires kind_from { 2 ≤ kind }
     requires kind_to { kind ≤ 18 }
     requires fits { all_fit (plain_item kind n ∷ []) p ≡ true }
     ensures { result ≡ sized (plain_item kind n ∷ []) p }
 {
-    let e = plain_entry(kind, n);
-    let line = line_if(p.listed, p.records, e.kind, e.first as u32, e.second as u32);
-    p.advance(0, line as u32);
-    p
+    count_entry(plain_entry(kind, n), p)
 }
 
 // Nothing is put yet, of records that are to be listed or not.
@@ -286,16 +295,13 @@ pub fn no_size(listed: bool) -> Size
     }
 }
 
-// The bytes to be counted of a record's line; none where an operand of it or a number of the size after it does not fit.
+// The bytes to be counted of a record's line; none where a number of the size after it does not fit.
 fn fitting(e: Entry, p: Size) -> Option<u32>
     ensures { result ≡ room_for e p }
 {
-    if LIMIT <= e.bytes.max(e.first.max(e.second)) {
-        return None;
-    }
     let records = p.records as u64 + 1;
-    let texts = p.texts as u64 + e.bytes;
-    let line = line_if(p.listed, p.records, e.kind, e.first as u32, e.second as u32);
+    let texts = p.texts as u64 + e.bytes as u64;
+    let line = line_if(e, p);
     let lines = p.lines as u64 + line;
     if LIMIT <= records.max(texts.max(lines)) {
         return None;
@@ -362,7 +368,11 @@ impl<'a> Output<'a> {
         let Some(p) = self.size else {
             return;
         };
-        self.emit(text_entry(p.texts, s.len()));
+        if LIMIT <= s.len() as u64 {
+            self.size = None;
+            return;
+        }
+        self.emit(text_entry(p.texts, p.listed, s));
         if self.size.is_some() {
             put_bytes(self.texts, p.texts as usize, s);
         }

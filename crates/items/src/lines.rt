@@ -1,6 +1,7 @@
 // The lengths of the lines that list records.
 ghost use Rattle.std.specs.Prelude.{◌≡◌, ◌<◌, length};
-ghost use Rattle.items.specs.Lines.{decimal, field};
+ghost use Rattle.std.specs.List.{count_by};
+ghost use Rattle.items.specs.Lines.{decimal, field, is_escaped};
 ghost use Rattle.items.specs.Names.{name_at, has_number, described_length, line_length};
 
 use super::names::{IF_LINES, Table, name_length};
@@ -33,12 +34,32 @@ pub fn has_number(kind: u32) -> bool
     matches!(kind, MARK | RUN..=AGAIN)
 }
 
-// The length of what lists a record's kind and operands.
-fn described_length(kind: u32, first: u32, second: u32) -> u64
-    ensures { result ≡ described_length kind first second }
+// A byte of a text that is listed by its octal digits.
+pub fn is_escaped(b: u8) -> bool
+    ensures { result ≡ is_escaped b }
+{
+    b.is_ascii_control() | (b == b'\\')
+}
+
+// How many bytes of a text are.
+pub fn escapes(s: &[u8]) -> usize
+    ensures { result ≡ count_by is_escaped s.now }
+{
+    let mut n = 0;
+    for b in s {
+        if is_escaped(*b) {
+            n += 1;
+        }
+    }
+    n
+}
+
+// The length of what lists a record's kind and operands, and its text, in which so many bytes are escaped.
+fn described_length(kind: u32, first: u32, second: u32, escapes: u32) -> u64
+    ensures { result ≡ described_length kind first second escapes }
 {
     if kind == TEXT {
-        return field_length(Table::Kinds, TEXT, second) + 1 + second as u64;
+        return field_length(Table::Kinds, TEXT, second) + 1 + second as u64 + 3 * (escapes as u64);
     }
     if (kind == IF) & (first == LINES) {
         return field_length(Table::Others, IF_LINES, second);
@@ -50,8 +71,8 @@ fn described_length(kind: u32, first: u32, second: u32) -> u64
 }
 
 // The length of the line of record n.
-pub fn line_length(n: u32, kind: u32, first: u32, second: u32) -> u64
-    ensures { result ≡ line_length n kind first second }
+pub fn line_length(n: u32, kind: u32, first: u32, second: u32, escapes: u32) -> u64
+    ensures { result ≡ line_length n kind first second escapes }
 {
-    decimal_length(n) + described_length(kind, first, second) + 2
+    decimal_length(n) + described_length(kind, first, second, escapes) + 2
 }

@@ -8,13 +8,13 @@ use lib.Dec.{eqb}
 use lib.ListN.{take, drop}
 use borrow.Author.Tests.{eq-eqb, ne_eqb}
 use Rattle.text.specs.Basic.{ascii}
-use Rattle.items.specs.Lines.{field}
+use Rattle.items.specs.Lines.{field, escaped}
 use Rattle.items.specs.Names.{name_at, has_number}
 use Rattle.items.specs.declared.names.Table.TheVariants.{Kinds, Others}
 use Rattle.listing.specs.Shown.{stored_text, shown}
 
 -- a text lies from its offset to its offset and length
-pub text-part : (ts : List ℕ) (a b : ℕ) → take b (drop a ts) ≡ take (a + b - a) (drop a ts)
+pub text-part : (ts : List ℕ) (a b : ℕ) → escaped (take b (drop a ts)) ≡ escaped (take (a + b - a) (drop a ts))
 text-part ts a b = let e : a + b - a ≡ b = omega arith in rw e
 
 module _ (ts : List ℕ) (k a b : ℕ) where

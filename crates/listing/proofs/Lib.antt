@@ -4,6 +4,7 @@ mod Head
 mod Items
 pub mod Listable
 pub mod Refused
+pub mod Unlisted
 mod Whole
 pub mod Writes
 mod Writing

@@ -1,10 +1,12 @@
 -- Loops that write.
 use mathlib.Core.Path.{◌≡◌, refl, ap, ◌∙◌}
-use mathlib.Core.List.{List, [], ◌++◌}
-use Prim.Native.Nat.{ℕ, suc, ◌+◌, ◌-◌, ◌<◌, ◌≤◌}
+use mathlib.Core.List.{List, [], ◌∷◌, ◌++◌}
+use Prim.Native.Nat.{ℕ, suc, ◌+◌, ◌-◌, ◌/◌, ◌%◌, ◌<◌, ◌≤◌}
 use native.Mathlib.Omega.{arith}
 use native.Mathlib.Numerals.{add-one}
-use lib.ListN.{length, length-append}
+use lib.ListN.{length, get_or, drop, length-append, drop_of_length-le}
+use lib.Seq.{drop-cons}
+use Rattle.items.specs.Lines.{octal, escaped_byte, escaped}
 use Rattle.listing.specs.Writes.{Room, Fills}
 use Rattle.listing.specs.declared.Sheet.{Sheet}
 use Rattle.listing.specs.Shown.{line_at, lines_from}
@@ -30,6 +32,31 @@ writing_all g e = g.rest (by e blank)
 -- what is still to be written has room
 pub room-left : {us vs : List ℕ} {o a : Sheet} → Writing us vs o a → Room us o.at → Room vs a.at
 room-left g r = record { fits = omega (arith, g.left, r.fits) }
+
+-- ---- the bytes of a text
+
+escaped-next : (s : List ℕ) (i : ℕ) → i < length s → escaped (drop i s) ≡ escaped_byte (get_or s i 0) ++ escaped (drop (i + 1) s)
+unfolding escaped
+escaped-next s i h = rw (drop-cons s i 0 h, add-one i)
+
+-- a byte by its octal digits
+pub octal_by : (b : ℕ) {x y z : ℕ} → x ≡ 48 + b / 64 → y ≡ 48 + b / 8 % 8 → z ≡ 48 + b % 8 → octal b ≡ 92 ∷ x ∷ y ∷ z ∷ []
+octal_by b h i j = rw (h, i, j)
+
+module _ (s : List ℕ) where
+  -- What a loop keeps that writes what lists s, where it has come to byte i.
+  abbrev pub Escaping : Sheet → Sheet → ℕ → Type 0
+  Escaping o a i = Writing (escaped s) (escaped (drop i s)) o a
+
+  pub escaping_more : {o a b : Sheet} (i : ℕ) → Escaping o a i → i < length s → Fills (escaped_byte (get_or s i 0)) a b → Escaping o b (i + 1)
+  escaping_more i g h k = writing_more g (escaped-next s i h) k
+
+  pub escaping-all : {o a : Sheet} (i : ℕ) → Escaping o a i → length s ≤ i → Fills (escaped s) o a
+  unfolding escaped
+  escaping-all i g h = writing_all g (rw (drop_of_length-le s h))
+
+  pub escaping-room : {o a : Sheet} (i : ℕ) → Escaping o a i → i < length s → Room (escaped s) o.at → Room (escaped_byte (get_or s i 0)) a.at
+  escaping-room i g h r = room-first _ (room_as (escaped-next s i h) (room-left g r))
 
 -- ---- the lines of records
 

@@ -4,3 +4,4 @@ pub mod Examples
 pub mod Writes
 pub mod Listable
 pub mod Shown
+pub mod Unlisted

@@ -1,14 +1,14 @@
 -- What the private functions write, by the numbers of records and of names. Only contracts of private functions cite this.
 use Rattle.std.specs.Prelude.{◌≡◌, cond, ◌&&◌, List, [], ◌∷◌, ◌++◌, ℕ, zero, suc, ◌+◌, ◌*◌, ◌<◌, ◌≤◌, eqb, length, get_or, take, drop}
 use Rattle.text.specs.Basic.{ascii}
-use Rattle.items.specs.Lines.{decimal, field, kind_names}
+use Rattle.items.specs.Lines.{decimal, field, escaped, kind_names}
 use Rattle.items.specs.Names.{name_at, has_number}
 use Rattle.items.specs.declared.names.Table.TheVariants.{Kinds, Others}
 use Rattle.items.specs.Records.{record_size}
 
--- 'for text, the length and the text as stored', by its offset and length
+-- 'for text, the length and the text', by its offset and length
 unfoldable pub stored_text : List ℕ → ℕ → ℕ → List ℕ
-stored_text ts a b = field (name_at Kinds 1) b ++ (32 ∷ take b (drop a ts))
+stored_text ts a b = field (name_at Kinds 1) b ++ (32 ∷ escaped (take b (drop a ts)))
 
 -- a record's kind and operands
 unfoldable pub shown : List ℕ → ℕ → ℕ → ℕ → List ℕ

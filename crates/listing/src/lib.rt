@@ -3,14 +3,14 @@
 
 ghost use Rattle.std.specs.Prelude.{◌≡◌, [], ◌∷◌, ℕ, ◌<◌, ◌+◌, ◌≤◌, length};
 ghost use Rattle.text.specs.Basic.{ascii};
-ghost use Rattle.items.specs.Lines.{decimal, field};
+ghost use Rattle.items.specs.Lines.{decimal, field, octal, escaped_byte, escaped};
 ghost use Rattle.items.specs.Names.{names_of, name_at};
 ghost use Rattle.listing.specs.Listing.{head_line, listing, refused_line};
 ghost use Rattle.listing.specs.Writes.{WritesIn, WritesOn, Room};
 ghost use Rattle.listing.specs.Shown.{stored_text, shown, Readable, Line, line_at, lines_from};
 ghost use Rattle.listing.specs.Listable.{items_in, Listable};
 
-use items::lines::{LINES, field_length, has_number};
+use items::lines::{LINES, field_length, has_number, is_escaped};
 use items::names::{IF_LINES, MARKS, RECORDS, RUNS, TEXTS, Table};
 use items::{Count, IF, RECORD, TEXT, names};
 
@@ -92,6 +92,40 @@ impl<'a> Sheet<'a> {
         self.put_decimal(n as usize);
     }
 
+    // Writes a byte by a backslash and its octal digits.
+    fn put_octal(&mut self, b: u8)
+        requires { Room (octal b) self.old.at }
+        ensures { WritesOn self (octal b) }
+    {
+        let n = b as usize;
+        self.put_byte(b'\\');
+        self.put_byte(digit(n / 64));
+        self.put_byte(digit(n / 8 % 8));
+        self.put_byte(digit(n % 8));
+    }
+
+    // Writes what lists a byte of a text.
+    fn put_escaped_byte(&mut self, b: u8)
+        requires { Room (escaped_byte b) self.old.at }
+        ensures { WritesOn self (escaped_byte b) }
+    {
+        if is_escaped(b) {
+            self.put_octal(b);
+        } else {
+            self.put_byte(b);
+        }
+    }
+
+    // Writes what lists a text, byte by byte.
+    fn put_escaped(&mut self, s: &[u8])
+        requires { Room (escaped s.now) self.old.at }
+        ensures { WritesOn self (escaped s.now) }
+    {
+        for b in s {
+            self.put_escaped_byte(*b);
+        }
+    }
+
     // Writes a text by its offset and length.
     fn put_text(&mut self, texts: &[u8], offset: u32, bytes: u32)
         requires inside { offset + bytes ≤ length texts.now }
@@ -102,7 +136,7 @@ impl<'a> Sheet<'a> {
         let end = start + (bytes as usize);
         self.put_field(Table::Kinds, TEXT, bytes);
         self.put_byte(b' ');
-        self.put_bytes(&texts[start..end]);
+        self.put_escaped(&texts[start..end]);
     }
 
     // Writes a record's kind and operands.

@@ -1,10 +1,11 @@
-// Writes three listings: that of `[1]`, as the scope paper has it, one with every kind of record, and the beginning of the first in a short buffer.
+// Writes four listings: that of `[1]`, as the scope paper has it, one with every kind of record, one of a text with every byte, and the
+// beginning of the first in a short buffer.
 #![tactic(auto)]
 
 ghost use Rattle.listing.specs.Listable.{Listable};
 
 use cases::front;
-use items::Count;
+use items::{Count, TEXT};
 use std::io::Result;
 
 // The records of `[1]`.
@@ -27,10 +28,15 @@ const EVERY_KIND: [u32; 57] = [
 // Their texts, `twelve bytes`.
 const TWELVE: [u8; 12] = [116, 119, 101, 108, 118, 101, 32, 98, 121, 116, 101, 115];
 
-// The bytes of the lines of both.
+// How many bytes there are.
+const BYTES: usize = 256;
+
+// The bytes of the lines of each.
 const LINES: u32 = 310;
 
 const EVERY_LINES: u32 = 236;
+
+const BYTES_LINES: u32 = 370;
 
 // Room for a listing.
 const LISTING: usize = 4096;
@@ -43,6 +49,21 @@ fn print_listing(rt: &impl Print, records: &[u32], texts: &[u8], c: Count, lines
     let mut out = [0u8; LISTING];
     listing::write_listing(records, texts, c, &mut out);
     rt.write_all(front(&out, n))
+}
+
+// Writes the listing of a text of every byte, in order.
+fn print_bytes(rt: &impl Print) -> Result<()> {
+    let mut text = [0u8; BYTES];
+    for b in 0..BYTES {
+        text[b] = b as u8;
+    }
+    let c = Count {
+        records: 1,
+        texts: BYTES as u32,
+        runs: 0,
+        marks: 0,
+    };
+    print_listing(rt, &[TEXT, 0, BYTES as u32], &text, c, BYTES_LINES)
 }
 
 // Writes as much of a listing as 40 bytes take.
@@ -73,5 +94,6 @@ fn main(rt: HostRuntime) -> Result<()> {
         marks: 1,
     };
     print_listing(&rt, &every, &twelve, d, EVERY_LINES)?;
+    print_bytes(&rt)?;
     print_beginning(&rt, &records, &texts, c)
 }

@@ -1,6 +1,6 @@
 use mathlib.Core.Path.{refl}
 use borrow.Author.Rules.{rules}
-use Rattle.formatter.proofs.Calls.{stated-list, listed-reply}
+use Rattle.formatter.proofs.Calls.{stated-list, reads-back, listed-reply}
 use Rattle.formatter.proofs.list_items.Goals as goal
 
 pub returns : goal.returns
@@ -10,4 +10,4 @@ returns c =
     let n = h.lent.texts in
     let o = h.lent.listing in
     let r = stated-list h.served (listed-reply _) (search rules) (search rules) refl (search rules) in
-    record { value = r.0; records_after = r.1.0; texts_after = r.1.1.0; listing_after = r.1.1.1.0; answered = r.1.1.1.1 }
+    record { value = r.0; records_after = r.1.0; texts_after = r.1.1.0; listing_after = r.1.1.1.0; answered = r.1.1.1.1; read_back = reads-back h.served (listed-reply _) (search rules) (search rules) refl (search rules) }

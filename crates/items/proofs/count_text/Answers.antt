@@ -1,16 +1,12 @@
 use mathlib.Core.Path.{refl}
-use native.Mathlib.Omega.{arith}
-use Rattle.items.proofs.Emits.{one-fits, one-sized}
+use Rattle.items.proofs.Emits.{text-short, one-fits, one-sized}
 use Rattle.items.proofs.count_text.Goals as goal
 
-pub overflow_cast-bytes : goal.overflow_cast-bytes
-overflow_cast-bytes c = omega (arith, (one-fits _ _ c.requires refl).second)
+pub text_entry-requires : goal.text_entry-requires
+text_entry-requires c = text-short _ _ c.requires
 
-pub overflow_cast-line : goal.overflow_cast-line
-overflow_cast-line c = omega (arith, (one-fits _ _ c.requires c.line_if-line.ensures).after.lines)
-
-pub advance-requires : goal.advance-requires
-advance-requires c = (one-fits _ _ c.requires c.line_if-line.ensures).after
+pub count_entry-requires : goal.count_entry-requires
+count_entry-requires c = one-fits _ _ c.text_entry.ensures refl c.requires
 
 pub returns : goal.returns
-returns c = one-sized _ _ c.line_if-line.ensures c.advance.ensures
+returns c = one-sized _ _ c.text_entry.ensures refl c.count_entry.ensures

@@ -1,12 +1,12 @@
-use Rattle.items.proofs.Emits.{unlisted, plain_fits, plain-put}
+use Rattle.items.proofs.Emits.{uncounted, plain-is, plain-texts, one-fits, one-put}
 use Rattle.items.proofs.put_plain.Goals as goal
 
 pub put_entry-requires : goal.put_entry-requires
 put_entry-requires c =
     let h = c.requires in
-    plain_fits _ _ h.kind_from h.kind_to c.args.p c.plain_entry.ensures (unlisted _ _ _ c.args.p c.requires.unlisted) h.fits
+    one-fits _ c.args.p (plain-is _ _ h.kind_from h.kind_to c.args.p c.plain_entry.ensures) (uncounted c.args.p h.unlisted c.plain_entry.result) h.fits
 
 pub returns : goal.returns
 returns c =
     let h = c.requires in
-    plain-put _ _ h.kind_from h.kind_to c.args.p c.plain_entry.ensures (unlisted _ _ _ c.args.p c.requires.unlisted) c.put_entry.ensures.records_after c.put_entry.ensures.value
+    one-put _ c.args.p (plain-is _ _ h.kind_from h.kind_to c.args.p c.plain_entry.ensures) (uncounted c.args.p h.unlisted c.plain_entry.result) c.put_entry.ensures.records_after (plain-texts _ _ h.kind_from h.kind_to _ _) c.put_entry.ensures.value

@@ -14,10 +14,10 @@ pub put_byte-requires : goal.put_byte-requires
 unfolding stored_text kind_names names_of
 put_byte-requires c = room-first _ (c.requires.room ⟫ c.put_field.ensures)
 
-pub put_bytes-requires : goal.put_bytes-requires
+pub put_escaped-requires : goal.put_escaped-requires
 unfolding stored_text
-put_bytes-requires c = room_as (text-part c.args.texts.now c.args.offset c.args.bytes) (c.requires.room ⟫ c.put_field.ensures ⟫ c.put_byte.ensures)
+put_escaped-requires c = room_as (text-part c.args.texts.now c.args.offset c.args.bytes) (c.requires.room ⟫ c.put_field.ensures ⟫ c.put_byte.ensures)
 
 pub returns : goal.returns
 unfolding stored_text
-returns c = c.put_field.ensures ▸ c.put_byte.ensures ▸ by (text-part c.args.texts.now c.args.offset c.args.bytes) c.put_bytes.ensures
+returns c = c.put_field.ensures ▸ c.put_byte.ensures ▸ by (text-part c.args.texts.now c.args.offset c.args.bytes) c.put_escaped.ensures
