@@ -2,14 +2,19 @@
 
 use oracle::{
     Answers, DEFAULT_COUNT, DEFAULT_SEED, answer,
-    generate::{Options, generate},
+    generate::{Family, Options, generate},
     image::{self, Element},
     print::{Mode, Printed, deep, kept, print},
 };
 
+/// Of all families with a share, or of the family statements.
+fn only(statements: bool) -> Option<Family> {
+    statements.then_some(Family::Statements)
+}
+
 fn elements(number: u64, statements: bool) -> Vec<Element> {
     let options = Options {
-        statements,
+        only: only(statements),
         ..Options::default()
     };
     let bytes = generate(DEFAULT_SEED, number, options).image;
@@ -57,7 +62,7 @@ fn both_modes_refuse_the_same() {
         for number in 0..6_000 {
             let options = Options {
                 damaged: true,
-                statements: number % 2 == 0,
+                only: only(number % 2 == 0),
                 ..Options::default()
             };
             let image = generate(DEFAULT_SEED, number, options).image;

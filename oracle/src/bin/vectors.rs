@@ -5,7 +5,7 @@
 //! of length, the lowest first, and its bytes.
 
 use std::{
-    collections::{BTreeMap, HashSet},
+    collections::{BTreeMap, BTreeSet, HashSet},
     env, fs,
     ops::RangeInclusive,
     path::Path,
@@ -15,7 +15,7 @@ use std::{
 use oracle::{
     Answers, answer, describe,
     generate::{
-        Family::{self, Comments, Deep, Grammatical, Mutated, Random, Statements, Wide},
+        Family::{self, Comments, Deep, Grammatical, Mutated, Random, Statements, Texts, Wide},
         Options, edges, generate,
     },
     image::{self, Element},
@@ -23,10 +23,13 @@ use oracle::{
 };
 
 const SEED: u64 = 2026;
-/// How many images of the seed are looked through, and how many that are full of
-/// comments around statements.
+/// How many images of the seed are looked through, of all families and of that of
+/// texts, and how many that are full of comments around statements.
 const COUNT: u64 = 30_000;
 const STATEMENTS: u64 = 80_000;
+
+/// So many bytes are escaped in a listing: those below 32, 127 and the backslash.
+const ESCAPED: usize = 34;
 
 /// What the keeping mode adds to the plain answer to an image.
 #[derive(Clone, Copy, PartialEq, Eq)]
@@ -41,27 +44,32 @@ use Added::{AroundStatements, BeforeBases, Nothing};
 
 /// How many images of a family are kept, of those whose image and answer together
 /// have so many bytes, and to which so much is added. Deep and wide ones have to be
-/// answered with a listing.
+/// answered with a listing, those of texts with one that has an escape.
 type Row = (Family, usize, RangeInclusive<usize>, Added);
 
-const PLAIN: [Row; 10] = [
-    (Random, 820, 0..=300, Nothing),
-    (Random, 100, 301..=700, Nothing),
-    (Mutated, 270, 0..=300, Nothing),
+const PLAIN: [Row; 12] = [
+    (Random, 620, 0..=300, Nothing),
+    (Random, 80, 301..=700, Nothing),
+    (Mutated, 200, 0..=300, Nothing),
     (Mutated, 40, 301..=1_000, Nothing),
-    (Grammatical, 220, 0..=300, Nothing),
+    (Grammatical, 154, 0..=300, Nothing),
     (Grammatical, 40, 301..=1_000, Nothing),
+    (Texts, 310, 0..=250, Nothing),
+    (Texts, 40, 251..=800, Nothing),
     (Comments, 60, 0..=500, Nothing),
     (Comments, 30, 501..=1_000, Nothing),
     (Deep, 3, 0..=4_500, Nothing),
     (Wide, 1, 0..=20_000, Nothing),
 ];
-const KEEPING: [Row; 14] = [
+const KEEPING: [Row; 17] = [
     (Statements, 350, 0..=250, AroundStatements),
-    (Statements, 350, 251..=400, AroundStatements),
+    (Statements, 200, 251..=400, AroundStatements),
     (Statements, 30, 401..=700, AroundStatements),
-    (Statements, 665, 0..=180, BeforeBases),
-    (Statements, 185, 0..=180, Nothing),
+    (Statements, 541, 0..=180, BeforeBases),
+    (Statements, 110, 0..=180, Nothing),
+    (Texts, 90, 0..=400, AroundStatements),
+    (Texts, 115, 0..=250, BeforeBases),
+    (Texts, 145, 0..=200, Nothing),
     (Random, 20, 0..=700, AroundStatements),
     (Random, 150, 0..=300, BeforeBases),
     (Random, 60, 0..=300, Nothing),
@@ -90,6 +98,9 @@ struct Vectors {
     by_answer: BTreeMap<u32, usize>,
     /// Those to which something is added, and of them those around statements.
     added: [usize; 2],
+    /// Those with an escape in their answer, and all escapes there.
+    escaped: usize,
+    escapes: BTreeSet<Vec<u8>>,
 }
 
 /// The number of the refusal, 0 for a listing.
@@ -97,6 +108,11 @@ fn refusal(answer: &[u8]) -> u32 {
     let words = answer.strip_prefix(b"refused ");
     let number = words.and_then(|w| w.split(|b| *b == b' ').next());
     number.map_or(0, |n| String::from_utf8_lossy(n).parse().expect("a number"))
+}
+
+/// The escapes of an answer. No other backslash stands in a listing.
+fn escapes(answer: &[u8]) -> impl Iterator<Item = &[u8]> {
+    answer.windows(4).filter(|bytes| bytes[0] == b'\\')
 }
 
 impl Vectors {
@@ -108,6 +124,8 @@ impl Vectors {
             by_source: BTreeMap::new(),
             by_answer: BTreeMap::new(),
             added: [0; 2],
+            escaped: 0,
+            escapes: BTreeSet::new(),
         }
     }
 
@@ -139,6 +157,8 @@ impl Vectors {
         let added = self.added(&image, answer);
         self.added[0] += usize::from(added != Nothing);
         self.added[1] += usize::from(added == AroundStatements);
+        self.escaped += usize::from(escapes(answer).next().is_some());
+        self.escapes.extend(escapes(answer).map(<[u8]>::to_vec));
         self.seen.insert(image);
         *self.by_source.entry(source).or_default() += 1;
         *self.by_answer.entry(refusal(answer)).or_default() += 1;
@@ -173,16 +193,24 @@ impl Vectors {
         }
     }
 
-    fn add_generated(&mut self, left: &mut [Row], statements: bool) {
+    /// Images of all families with a share, or of one only.
+    fn add_generated(&mut self, left: &mut [Row], only: Option<Family>) {
         let options = Options {
-            statements,
+            only,
             ..Options::default()
         };
-        for number in 0..if statements { STATEMENTS } else { COUNT } {
+        let count = if only == Some(Statements) {
+            STATEMENTS
+        } else {
+            COUNT
+        };
+        for number in 0..count {
             let sample = generate(SEED, number, options);
             let answer = self.answer(&sample.image);
             let size = sample.image.len() + answer.len();
-            if matches!(sample.family, Deep | Wide) && refusal(&answer) > 0 {
+            if matches!(sample.family, Deep | Wide) && refusal(&answer) > 0
+                || sample.family == Texts && escapes(&answer).next().is_none()
+            {
                 continue;
             }
             let row = left.iter_mut().find(|(family, count, sizes, added)| {
@@ -221,6 +249,7 @@ impl Vectors {
 
     fn write(&self, file: &Path) {
         assert!(self.out.len() <= ROOM, "{} bytes", self.out.len());
+        assert_eq!(self.escapes.len(), ESCAPED, "each escape is met");
         fs::write(file, &self.out).expect("write the vectors");
         let (mode, count, size) = (self.mode.name(), self.seen.len(), self.out.len());
         println!("{count} vectors of the {mode} mode, {size} bytes");
@@ -230,6 +259,7 @@ impl Vectors {
         for (number, count) in &self.by_answer {
             println!("{count} of answer {number}");
         }
+        println!("{} with an escape in the answer", self.escaped);
         if self.mode != Mode::Plain {
             let [other, around] = self.added;
             println!(
@@ -244,7 +274,8 @@ fn plain() -> Vectors {
     vectors.add_cases("cases");
     vectors.add_limits(edges::edges(), too_much(false));
     let mut left = PLAIN;
-    vectors.add_generated(&mut left, false);
+    vectors.add_generated(&mut left, None);
+    vectors.add_generated(&mut left, Some(Texts));
     vectors.add_damaged();
     vectors
 }
@@ -256,8 +287,9 @@ fn keeping() -> Vectors {
     let at_limits = [edges::edges(), edges::kept_edges()].concat();
     vectors.add_limits(at_limits, too_much(true));
     let mut left = KEEPING;
-    vectors.add_generated(&mut left, true);
-    vectors.add_generated(&mut left, false);
+    vectors.add_generated(&mut left, Some(Statements));
+    vectors.add_generated(&mut left, None);
+    vectors.add_generated(&mut left, Some(Texts));
     vectors.add_damaged();
     vectors
 }
@@ -273,8 +305,8 @@ fn no_elements() -> Vec<Vec<u8>> {
 }
 
 /// Images that need more room than document 01's program has: for records and the
-/// listing, for all three, for texts and the listing, and twice for the listing
-/// alone. One that needs it for records alone is at a limit. What takes the room
+/// listing, for all three, for texts and the listing, and three times for the listing
+/// alone, once because of its escapes. One that needs it for records alone is at a limit. What takes the room
 /// stands before the Expr, or in it, where only the keeping mode prints it.
 fn too_much(in_expr: bool) -> Vec<Vec<u8>> {
     let file = |kind, text: String| {
@@ -307,6 +339,7 @@ fn too_much(in_expr: bool) -> Vec<Vec<u8>> {
         file(65, format!("/**{}{}*/", tabs(4_980), letters(12_100))),
         file(65, format!("/**\nx{}x\n*/", lines(2_400))),
         file(70, format!("{}{}", lines(2_400), letters(5_000))),
+        file(70, format!("{}{}", lines(2_400), "\\".repeat(1_500))),
     ]
 }
 

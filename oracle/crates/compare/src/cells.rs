@@ -27,6 +27,12 @@ impl<T: Copy + PartialEq + fmt::Debug> Cells<T> {
         self.all.as_mut_ptr()
     }
 
+    /// The first cells of those that were lent, as the call left them: so many as it
+    /// says that it has written, or `None` if it was lent fewer.
+    pub fn written(&self, lent: usize, count: u64) -> Option<&[T]> {
+        self.all[..lent].get(..usize::try_from(count).ok()?)
+    }
+
     /// Whether a call that was lent so many has written these and no others. Puts
     /// the pattern back.
     pub fn compare(&mut self, lent: usize, wanted: &[T]) -> Result<(), String> {
@@ -68,5 +74,15 @@ mod tests {
             );
             assert_eq!(cells.compare(lent, b""), Ok(()), "the pattern is back");
         }
+    }
+
+    #[test]
+    fn no_more_cells_than_were_lent() {
+        let mut cells = Cells::new(b'.');
+        cells.lend(2);
+        assert_eq!(cells.written(2, 0), Some(&b""[..]));
+        assert_eq!(cells.written(2, 2), Some(&b".."[..]));
+        assert_eq!(cells.written(2, 3), None);
+        assert_eq!(cells.written(2, u64::MAX), None);
     }
 }

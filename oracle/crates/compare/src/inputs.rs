@@ -2,13 +2,14 @@
 
 use oracle::{
     describe,
-    generate::{Options, edges, generate},
+    generate::{Family, Options, edges, generate},
     image,
 };
 
 /// So many images of a seed, as many of the next seed of which half are damaged,
-/// half as many full of comments around statements, those at the limits, and a few
-/// whose plans fill the library's first array.
+/// half as many full of comments around statements, half as many with texts that the
+/// listing escapes, those at the limits, and a few whose plans fill the library's
+/// first array.
 pub struct Inputs {
     seed: u64,
     count: usize,
@@ -35,7 +36,7 @@ impl Inputs {
 
     /// How many of them, from the first, were generated.
     fn generated(&self) -> usize {
-        2 * self.count + self.count / 2
+        2 * self.count + 2 * (self.count / 2)
     }
 
     /// How many of them, from the first, are images of all families as they were
@@ -48,15 +49,24 @@ impl Inputs {
         if let Some(edge) = number.checked_sub(self.generated()) {
             return self.at_limits[edge].clone();
         }
-        // Which of the three: of all families, damaged, statements.
-        let sort = number / self.count;
+        let (all, half) = (self.count, self.count / 2);
+        // Which of the four, and the number of its first image.
+        let (damaged, only, first) = if number < all {
+            (false, None, 0)
+        } else if number < 2 * all {
+            (true, None, all)
+        } else if number < 2 * all + half {
+            (false, Some(Family::Statements), 2 * all)
+        } else {
+            (false, Some(Family::Texts), 2 * all + half)
+        };
         let options = Options {
-            damaged: sort == 1,
-            statements: sort == 2,
+            damaged,
+            only,
             ..Options::default()
         };
-        let seed = self.seed + u64::from(options.damaged);
-        generate(seed, (number % self.count) as u64, options).image
+        let seed = self.seed + u64::from(damaged);
+        generate(seed, (number - first) as u64, options).image
     }
 }
 

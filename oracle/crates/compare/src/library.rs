@@ -3,7 +3,7 @@
 
 use std::fmt;
 
-use oracle::{print::Mode, records::Records};
+use oracle::{print::Mode, records::Records, unlisted::unlisted};
 
 use crate::cells::Cells;
 
@@ -123,6 +123,15 @@ impl Room {
     }
 }
 
+/// What a call that writes the listing too has done.
+pub struct Listed {
+    /// Whether its answer and every cell are the oracle's.
+    pub answer: Result<(), String>,
+    /// Where it has accepted the image: whether its listing, read back, gives the
+    /// records and the texts that it has written beside it.
+    pub read_back: Option<Result<(), String>>,
+}
+
 /// The buffers of the calls.
 pub struct Buffers {
     records: Cells<u32>,
@@ -239,8 +248,30 @@ impl Buffers {
         cells
     }
 
-    /// Compares the answer of the call that writes the listing too, and every cell.
-    /// Where it is refused the listing is empty.
+    /// Reads the listing of a call with these values back. Nothing of the oracle's
+    /// answer is needed for it.
+    fn read_back(&self, room: Room, values: [u64; 6]) -> Result<(), String> {
+        let [records, bytes, _, _, length, _] = values;
+        let words = self.records.written(room.words, records.saturating_mul(3));
+        let texts = self.texts.written(room.bytes, bytes);
+        let listing = self.listing.written(room.listing, length);
+        let (Some(words), Some(texts), Some(listing)) = (words, texts, listing) else {
+            return Err(format!("{values:?} are more than was lent"));
+        };
+        let back = unlisted(listing)?;
+        if back.records.as_flattened() != words {
+            let fault = "the records read back are not those that were written";
+            return Err(fault.to_owned());
+        }
+        if back.texts != texts {
+            let fault = "the texts read back are not those that were written";
+            return Err(fault.to_owned());
+        }
+        Ok(())
+    }
+
+    /// Compares the answer of the call that writes the listing too, and every cell,
+    /// and reads its listing back. Where it is refused the listing is empty.
     pub fn list(
         &mut self,
         image: &[u8],
@@ -248,15 +279,20 @@ impl Buffers {
         room: Room,
         wanted: Answer,
         listing: &[u8],
-    ) -> Result<(), String> {
+    ) -> Listed {
         let ours = self.call_list(image, number(mode), room);
+        // Before the pattern is put back.
+        let read_back = (ours.0 == 0).then(|| self.read_back(room, ours.1));
         let cells = self.compare(room, wanted);
         let lines = self.listing.compare(room.listing, listing);
+        let lines = lines.map_err(|fault| format!("listing: {fault}"));
         let (expected, [a, b, c, d, element]) = wanted.values();
         let length = listing.len() as u64;
-        same(ours, (expected, [a, b, c, d, length, element]))?;
-        cells?;
-        lines.map_err(|fault| format!("listing: {fault}"))
+        let values = same(ours, (expected, [a, b, c, d, length, element]));
+        Listed {
+            answer: values.and(cells).and(lines),
+            read_back,
+        }
     }
 
     /// Compares what both calls do with a number that is no mode: nothing, but for

@@ -1,5 +1,6 @@
 //! Listings in both modes, by the call that writes the records too: refusals 1 to
-//! 13, the five counts, and every cell of the three buffers.
+//! 13, the five counts, and every cell of the three buffers. Each listing that is
+//! given is read back.
 
 use std::time::Instant;
 
@@ -18,6 +19,8 @@ struct Listings {
     buffers: Buffers,
     /// Of each mode.
     reports: [Report; 2],
+    /// Of each mode, the library against itself.
+    read_back: [Report; 2],
     /// Calls of each mode by answer: listed, then refusals 1 to 13.
     by_answer: [[u64; 14]; 2],
 }
@@ -29,6 +32,12 @@ impl Default for Listings {
             reports: Mode::BOTH.map(|mode| {
                 Report::new(format!(
                     "{} mode: listings where the room suffices or is short, refusals 1 to 13",
+                    mode.name()
+                ))
+            }),
+            read_back: Mode::BOTH.map(|mode| {
+                Report::new(format!(
+                    "{} mode: listings read back, against the records and texts of the same call",
                     mode.name()
                 ))
             }),
@@ -107,19 +116,24 @@ impl Listings {
             Answer::Printed(_) => 0,
             Answer::Refused(number, _) => number as usize,
         }] += 1;
-        let report = &mut self.reports[mode as usize];
-        match self.buffers.list(bytes, mode, room, wanted, listing) {
+        let listed = self.buffers.list(bytes, mode, room, wanted, listing);
+        let note = |report: &mut Report, result| match result {
             Ok(()) => report.same(),
             Err(fault) => report.differs(bytes.len(), number, || {
                 format!("in {room:?}: {fault}, for\n{}", shown(bytes))
             }),
+        };
+        note(&mut self.reports[mode as usize], listed.answer);
+        if let Some(result) = listed.read_back {
+            note(&mut self.read_back[mode as usize], result);
         }
     }
 }
 
 /// Compares the listings of all images of a run and shows how fast. In the time
-/// are the making of the images, the oracle's printing and its listings.
-pub fn compare(inputs: &Inputs) -> [Report; 2] {
+/// are the making of the images, the oracle's printing and its listings, and the
+/// reading back.
+pub fn compare(inputs: &Inputs) -> impl Iterator<Item = Report> {
     let start = Instant::now();
     let parts = threads::share(inputs.len(), |listings: &mut Listings, number| {
         listings.compare(number, &inputs.image(number));
@@ -128,6 +142,9 @@ pub fn compare(inputs: &Inputs) -> [Report; 2] {
     let mut sum = Listings::default();
     for part in parts {
         for (sum, more) in sum.reports.iter_mut().zip(part.reports) {
+            sum.add(more);
+        }
+        for (sum, more) in sum.read_back.iter_mut().zip(part.read_back) {
             sum.add(more);
         }
         let sum = sum.by_answer.as_flattened_mut();
@@ -140,5 +157,5 @@ pub fn compare(inputs: &Inputs) -> [Report; 2] {
         );
     }
     println!("listings of both modes: {rate:.0} images a second");
-    sum.reports
+    sum.reports.into_iter().chain(sum.read_back)
 }
