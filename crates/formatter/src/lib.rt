@@ -56,8 +56,8 @@ pub fn list_items(
     ensures records_after { records.new ≡ records_in image mode records texts (listed listing) }
     ensures texts_after { texts.new ≡ texts_in image mode records texts (listed listing) }
     ensures listing_after { listing.new ≡ listing_in image mode records texts listing }
-    ensures answered { AnsweredIn image mode records texts (reply_listed result) }
     ensures read_back { ReadBackIn records texts listing (reply_listed result) }
+    ensures answered { AnsweredIn image mode records texts (reply_listed result) }
 {
     let mut buffers = Buffers::new(records, texts, listing);
     let wanted = Wanted { mode, listed: true };

@@ -170,16 +170,19 @@ pub plain-texts : (k n : ℕ) → 2 ≤ k → k ≤ 18 → (ts : List ℕ) (at :
 unfolding store
 plain-texts k n h l ts at = rw (plain-bare k n 0 h l).1 refl
 
--- a text that fits has a length that fits
-pub text-short : (s : List ℕ) (p : Size) → all_fit (text s ∷ []) p ≡ true → length s < 2 ^ 32
+-- where an item's numbers fit, so does its second operand, and there is room for it
+fitted : (x : Item) (p : Size) → all_fit (x ∷ []) p ≡ true → let e = entry_of p.texts p.listed x in (e.second < 2 ^ 32) × RoomAfter e.bytes (line_of e p) p
 unfolding all_fit
-text-short s p h = (room-of (entry_of p.texts p.listed (text s)) p (rw (← (line-of (text s) p)) at (and_true (printable p (text s)) true h).0)).0
+fitted x p h = room-of (entry_of p.texts p.listed x) p (rw (← (line-of x p)) at (and_true (printable p x) true h).0)
+
+-- a text has a length that fits
+pub text-short : (s : List ℕ) (p : Size) → all_fit (text s ∷ []) p ≡ true → length s < 2 ^ 32
+text-short s p h = (fitted (text s) p h).0
 
 module _ (x : Item) (p : Size) {e : Entry} (i : e ≡ entry_of p.texts p.listed x) {n : ℕ} (c : n ≡ line_of e p) where
   -- there is room for an item whose numbers fit
   pub one-fits : all_fit (x ∷ []) p ≡ true → RoomAfter e.bytes n p
-  unfolding all_fit
-  one-fits h = rw (c, i) (room-of (entry_of p.texts p.listed x) p (rw (← (line-of x p)) at (and_true (printable p x) true h).0)).1
+  one-fits h = rw (c, i) (fitted x p h).1
 
   -- the size after it
   pub one-sized : {d : Size} → d ≡ size_after e.bytes n p → d ≡ sized (x ∷ []) p

@@ -22,7 +22,7 @@ pub struct Count {
 }
 
 // How much is put: records, bytes of their texts and, where the records are listed, of the lines that list them, else 0. With an `Option`
-// for these bytes each sum and each test of a size would ask what one function asks now (`line_if`). Printing gives an `Option<Size>`: none
+// for these bytes each sum and each test of a size would ask what `text_entry` and `line_if` ask now. Printing gives an `Option<Size>`: none
 // where it is full, since a number of the size or an operand would no longer fit 32 bits.
 #[derive(Clone, Copy)]
 pub struct Size {

@@ -10,6 +10,9 @@ use super::{AGAIN, IF, MARK, RUN, TEXT};
 // The first operand of a condition on lines.
 pub const LINES: u32 = 1;
 
+// The octal digits of an escaped byte; the backslash stands for the byte.
+const OCTAL_DIGITS: u64 = 3;
+
 // How many digits a number has.
 fn decimal_length(n: u32) -> u64
     ensures { result ≡ length (decimal n) }
@@ -59,7 +62,10 @@ fn described_length(kind: u32, first: u32, second: u32, escapes: u32) -> u64
     ensures { result ≡ described_length kind first second escapes }
 {
     if kind == TEXT {
-        return field_length(Table::Kinds, TEXT, second) + 1 + second as u64 + 3 * (escapes as u64);
+        return field_length(Table::Kinds, TEXT, second)
+            + 1
+            + second as u64
+            + OCTAL_DIGITS * (escapes as u64);
     }
     if (kind == IF) & (first == LINES) {
         return field_length(Table::Others, IF_LINES, second);
