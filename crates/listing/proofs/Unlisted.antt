@@ -1,16 +1,18 @@
 -- A listing is read back, so equal listings are of equal items.
 use mathlib.Core.Path.{◌≡◌, refl, ap, sym, ◌∙◌}
-use mathlib.Core.Bool.{Bool, true, false, cond, ◌||◌}
+use mathlib.Core.Bool.{Bool, true, false}
 use mathlib.Core.List.{List, [], ◌∷◌, ◌++◌, append_assoc, append-nil}
 use Prim.Native.Nat.{ℕ, zero, suc, ◌+◌, ◌*◌, ◌-◌, ◌/◌, ◌%◌, ◌≤◌, ◌<◌}
 use native.Mathlib.Omega.{arith}
 use lib.Dec.{leb, ltb, eqb}
-use lib.ListN.{length, take, length-append}
+use lib.ListN.{length, take, drop, length-append}
+use Rattle.std.proofs.lemmas.List.{take-append-drop}
 use lib.Seq.{take-append-le}
-use borrow.Author.Tests.{leb-true, ltb-true, ltb-false, eqb-true, ne_eqb}
+use borrow.Author.Tests.{leb-true, ltb-true, ltb-false, ne_eqb}
+use Rattle.std.proofs.Common.{tests}
 use Rattle.text.specs.Basic.{ascii, same_bytes, count, All, ∅, ◌▹◌, all}
-use Rattle.text.proofs.Lists.{all_append, and_true}
-use Rattle.text.specs.Text.{in_first}
+use Rattle.text.proofs.BlankLines.{some-line}
+use Rattle.text.proofs.Lists.{count-append, all_append, and_true}
 use Rattle.text.specs.Text.{lines as lines_of}
 use Rattle.items.specs.declared.Count.{Count}
 use Rattle.items.specs.declared.Signal.{Signal}
@@ -45,22 +47,11 @@ tested m (b ∷ s) h = let (x, y) = and_true (leb m b) (all (leb m) s) h in leb-
 module _ (b : ℕ) where
   -- one that is escaped has three octal digits
   escaped-small : is_escaped b ≡ true → b < 128
-  escaped-small h = go (ltb b 32) (eqb b 127) (eqb b 92) refl refl refl h
-    where
-      go : (x y z : Bool) → ltb b 32 ≡ x → eqb b 127 ≡ y → eqb b 92 ≡ z → (x || (y || z)) ≡ true → b < 128
-      go true y z e f g k = omega (arith, ltb-true b 32 e)
-      go false true z e f g k = omega (arith, eqb-true b 127 f)
-      go false false true e f g k = omega (arith, eqb-true b 92 g)
-      go false false false e f g k = absurd (let z : ◌≡◌ {A = ℕ} 0 1 = cc in omega arith)
+  escaped-small h = search (tests, arith)
 
   -- any other is no backslash, and no control character
   plain-is : is_escaped b ≡ false → (32 ≤ b) × (eqb b 92 ≡ false)
-  plain-is h = go (ltb b 32) (eqb b 127) (eqb b 92) refl h
-    where
-      go : (x y z : Bool) → ltb b 32 ≡ x → (x || (y || z)) ≡ false → (32 ≤ b) × (z ≡ false)
-      go true y z e k = absurd (let z : ◌≡◌ {A = ℕ} 0 1 = cc in omega arith)
-      go false true z e k = absurd (let z : ◌≡◌ {A = ℕ} 0 1 = cc in omega arith)
-      go false false z e k = (ltb-false b 32 e, k)
+  plain-is h = search (tests, arith)
 
 octal-value : (b : ℕ) (s : List ℕ) → b < 128 → octal_value ((48 + b / 64) ∷ (48 + b / 8 % 8) ∷ (48 + b % 8) ∷ s) ≡ b
 octal-value b s h = omega (arith, h)
@@ -217,16 +208,6 @@ unfolding lines_of
 line_is r ∅ = refl
 line_is r (◌▹◌ {x} {xs} h p) = rw (ne_eqb x 10 (λ k. absurd (omega arith)), line_is r p) refl
 
--- a text has a first line
-some-line : (s : List ℕ) → (l : List ℕ) × (ls : List (List ℕ)) × (lines_of s ≡ l ∷ ls)
-unfolding lines_of
-some-line [] = ([], [], refl)
-some-line (b ∷ s) = go (eqb b 10) (some-line s)
-  where
-    go : (t : Bool) → (l : List ℕ) × (ls : List (List ℕ)) × (lines_of s ≡ l ∷ ls) → (l : List ℕ) × (ls : List (List ℕ)) × (cond t ([] ∷ lines_of s) (in_first b (lines_of s)) ≡ l ∷ ls)
-    go true q = ([], lines_of s, refl)
-    go false (l, ls, e) = (b ∷ l, ls, rw e refl)
-
 lines_step : (l s : List ℕ) → read_lines (l ∷ lines_of s) ≡ read_item (behind l) ∷ read_lines (lines_of s)
 unfolding read_lines
 lines_step l s = let (m, ls, e) = some-line s in rw e refl
@@ -250,16 +231,21 @@ lines-back n (x ∷ xs) =
     ∙ lines_step (body n x) r
     ∙ rw (behind_is (described x) (decimal-above 33 n (omega arith)), (item_back x).told, lines-back (suc n) xs) refl
 
--- a line has one LF
-line-counted_lem : {l : List ℕ} (r : List ℕ) → Above 32 l → count 10 (l ++ (10 ∷ r)) ≡ suc (count 10 r)
+-- bytes from 32 on hold no line end
+no-end : {s : List ℕ} → Above 32 s → count 10 s ≡ 0
 unfolding count
-line-counted_lem r ∅ = refl
-line-counted_lem r (◌▹◌ {x} {xs} h p) = rw (ne_eqb x 10 (λ k. absurd (omega arith))) (line-counted_lem r p)
+no-end ∅ = refl
+no-end (◌▹◌ {x} h p) = rw (ne_eqb x 10 (λ k. absurd (omega arith))) (no-end p)
+
+-- a line has one
+one-end : {l : List ℕ} (r : List ℕ) → Above 32 l → count 10 (l ++ (10 ∷ r)) ≡ suc (count 10 r)
+unfolding count
+one-end {l} r p = omega (arith, count-append 10 l (10 ∷ r), no-end p)
 
 lines-counted : (n : ℕ) (xs : List Item) → count 10 (record_lines n xs) ≡ length xs
 unfolding record_lines count
 lines-counted n [] = refl
-lines-counted n (x ∷ xs) = let r = record_lines (suc n) xs in ap (count 10) (body-ends n x r) ∙ line-counted_lem r (body-above n x) ∙ ap suc (lines-counted (suc n) xs)
+lines-counted n (x ∷ xs) = let r = record_lines (suc n) xs in ap (count 10) (body-ends n x r) ∙ one-end r (body-above n x) ∙ ap suc (lines-counted (suc n) xs)
 
 -- the first line holds no other line end
 four_fields : (a b c d : List ℕ) → a ++ (32 ∷ (b ++ (32 ∷ (c ++ (32 ∷ (d ++ (10 ∷ []))))))) ≡ (a ++ (32 ∷ (b ++ (32 ∷ (c ++ (32 ∷ d)))))) ++ (10 ∷ [])
@@ -290,7 +276,7 @@ pub line-each : (xs : List Item) → count 10 (listing xs) ≡ suc (length xs)
 unfolding listing
 line-each xs =
     let (l, e, p) = head_line_lem (counts_of xs) in
-    rw (e, append_assoc l (10 ∷ []) (record_lines 0 xs), line-counted_lem (record_lines 0 xs) p) (ap suc (lines-counted 0 xs))
+    rw (e, append_assoc l (10 ∷ []) (record_lines 0 xs), one-end (record_lines 0 xs) p) (ap suc (lines-counted 0 xs))
 
 -- A text ends with LF.
 record Closed (s : List ℕ) : Type 0 where
@@ -308,25 +294,10 @@ lines-closed s c n (x ∷ xs) =
     let e : Closed r = record { front = body n x; ends = sym (append-nil r) ∙ body-ends n x [] } in
     rw (← (append_assoc s r (record_lines (suc n) xs))) (lines-closed (s ++ r) (closed-append s e) (suc n) xs)
 
--- a byte is as often in a beginning as in the whole, or less often
-count-take : (b n : ℕ) (s : List ℕ) → count b (take n s) ≤ count b s
+-- a beginning of what stands in front of the last line end has no more line ends than that
+count-front : (n : ℕ) (f : List ℕ) → count 10 (take n f) < count 10 (f ++ (10 ∷ []))
 unfolding count
-count-take b zero s = omega arith
-count-take b (suc n) [] = omega arith
-count-take b (suc n) (x ∷ s) = go (eqb x b) (count-take b n s)
-  where
-    go : (t : Bool) → count b (take n s) ≤ count b s → cond t (suc (count b (take n s))) (count b (take n s)) ≤ cond t (suc (count b s)) (count b s)
-    go true h = omega (arith, h)
-    go false h = h
-
-count-last : (l : List ℕ) → count 10 (l ++ (10 ∷ [])) ≡ suc (count 10 l)
-unfolding count
-count-last [] = refl
-count-last (x ∷ l) = go (eqb x 10) (count-last l)
-  where
-    go : (t : Bool) → count 10 (l ++ (10 ∷ [])) ≡ suc (count 10 l) → cond t (suc (count 10 (l ++ (10 ∷ [])))) (count 10 (l ++ (10 ∷ []))) ≡ suc (cond t (suc (count 10 l)) (count 10 l))
-    go true h = ap suc h
-    go false h = h
+count-front n f = omega (arith, count-append 10 f (10 ∷ []), count-append 10 (take n f) (drop n f), ap (count 10) (take-append-drop n f))
 
 -- a listing that was cut short has fewer lines than its first line tells
 pub cut_short : (xs : List Item) (n : ℕ) → n < length (listing xs) → count 10 (take n (listing xs)) ≤ length xs
@@ -337,7 +308,7 @@ cut_short xs n h =
     let f = c.front in
     let k : n ≤ length f = omega (arith, h, ap length c.ends, length-append f (10 ∷ [])) in
     let t : take n (listing xs) ≡ take n f = ap (take n) c.ends ∙ take-append-le n f (10 ∷ []) k in
-    omega (arith, ap (count 10) t, count-take 10 n f, count-last f, ap (count 10) c.ends, line-each xs)
+    omega (arith, ap (count 10) t, count-front n f, ap (count 10) c.ends, line-each xs)
 
 -- 'Equal listings must then mean equal records and texts', offsets included
 pub same-listing : (xs ys : List Item) → listing xs ≡ listing ys → (words 0 xs ≡ words 0 ys) × (bytes xs ≡ bytes ys)

@@ -141,7 +141,7 @@ cut-kept (behind l m ls ms e g h) z =
     (⊎_elim (λ w. cc w.2) (λ q. q ∙ ap (λ (ks : List (List ℕ)). trim_end l ∷ ks) h) (drop_end-cons is_nil (trim_end l) (map trim_end ls)))
 
 -- every text has a first line
-some-line : (s : List ℕ) → (l : List ℕ) × (ls : List (List ℕ)) × (lines s ≡ l ∷ ls)
+pub some-line : (s : List ℕ) → (l : List ℕ) × (ls : List (List ℕ)) × (lines s ≡ l ∷ ls)
 unfolding lines
 some-line [] = ([], [], refl)
 some-line (b ∷ s) = go (eqb b 10) (lines s)
