@@ -153,7 +153,7 @@ plain-bare k n at h l = go (eqb k 18) refl
 
 -- ---- items that are put where their numbers fit
 
--- where records are not listed, a text's entry is that of one that is not, and no line is counted
+-- where records are not listed, no escape and no line is counted
 module _ (p : Size) (h : p.listed ≡ false) where
   pub unlisted : (x : Item) {e : Entry} → e ≡ entry_of p.texts false x → e ≡ entry_of p.texts p.listed x
   unlisted x i = rw h i

@@ -19,7 +19,7 @@ module _ (b : ℕ) {r : Bool} (i : r ≡ is_escaped b) where
   unfolding escaped_byte
   byte-itself h = rw (sym i ∙ h)
 
--- a byte is listed by three more where it is escaped
+-- an escaped byte is listed by three bytes more
 byte-length : (b : ℕ) → length (escaped_byte b) ≡ 1 + 3 * cond (is_escaped b) 1 0
 unfolding escaped_byte
 byte-length b = go (is_escaped b)
@@ -28,6 +28,7 @@ byte-length b = go (is_escaped b)
     go true = refl
     go false = refl
 
+-- a text by three more for each of them
 pub escaped-length : (s : List ℕ) → length (escaped s) ≡ length s + 3 * count_by is_escaped s
 unfolding escaped
 escaped-length [] = refl

@@ -87,7 +87,7 @@ module _ (k a b e : ℕ) where
 
 -- ---- lines by items
 
--- the escaped bytes of an item's text
+-- how many bytes of an item's text are escaped
 abbrev escapes_of : Item → ℕ
 escapes_of x = count_by is_escaped (bytes_of x)
 

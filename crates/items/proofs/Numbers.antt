@@ -32,7 +32,7 @@ misfits n (m ∷ ms) h = go (ltb n (2 ^ 32)) refl (misfits m ms)
     go true e f = f (omega (arith, ltb-true n (2 ^ 32) e))
     go false e f = refl
 
--- of the numbers that must fit, the operands do
+-- where the operands fit and the largest of the other numbers does, the largest of all fits
 under : (f s n : ℕ) → f < 2 ^ 32 → s < 2 ^ 32 → n < 2 ^ 32 → max f (max s n) < 2 ^ 32
 under f s n h i k = omega arith
 
