@@ -23,7 +23,8 @@ pub record Answered (m : Mode) (image rs ts : List ℕ) (c : Count) : Type 0 whe
   pub bound : c.records ≤ 24 * count_n image + 4 * count_b image
 
 -- What holds of the buffers rs, ts and ls that come back with the counts c and a listing of n bytes: what is read back from these bytes has the
--- counts, records and texts. Document 02, Ask 2: 'Equal listings must then mean equal records and texts.'
+-- counts, records and texts. Document 02, Ask 2: 'Equal listings must then mean equal records and texts.' `unlisted` looks at
+-- these bytes alone, so equal ones are of equal counts, records and texts.
 pub record ReadBack (rs ts ls : List ℕ) (c : Count) (n : ℕ) : Type 0 where
   pub counts : c ≡ counts_of (unlisted (take n ls))
   pub records : take (record_size * c.records) rs ≡ words 0 (unlisted (take n ls))

@@ -50,11 +50,11 @@ module _ (e : Entry) (p : Size) where
   roomy : All (λ m. m < 2 ^ 32) (e.first ∷ others) → (e.second < 2 ^ 32) × RoomAfter e.bytes line p
   roomy (f ▹ s ▹ r ▹ t ▹ l ▹ ∅) = (s, record { records = r; texts = t; lines = l })
 
-  -- where its numbers fit, there is room for an entry
+  -- where an entry's numbers fit, its second operand does, and there is room for it
   pub room-of : fit (e.first ∷ others) ≡ true → (e.second < 2 ^ 32) × RoomAfter e.bytes line p
   room-of h = roomy (fits_below _ h)
 
-  -- where the second operand does not, it cannot be counted
+  -- where the second operand does not fit, it cannot be counted
   pub second-full : 2 ^ 32 ≤ e.second → fit (e.first ∷ others) ≡ false
   second-full h = misfits e.first others (omega arith)
 

@@ -33,7 +33,7 @@ is_escaped b = ltb b 32 || (eqb b 127 || eqb b 92)
 abbrev pub octal : ℕ → List ℕ
 octal b = 92 ∷ (48 + b / 64) ∷ (48 + b / 8 % 8) ∷ (48 + b % 8) ∷ []
 
--- what lists a byte of a text; any other byte stays
+-- what lists a byte of a text: its octal digits where it is escaped, else itself
 unfoldable pub escaped_byte : ℕ → List ℕ
 escaped_byte b = cond (is_escaped b) (octal b) (b ∷ [])
 

@@ -1,4 +1,4 @@
--- The names in a listing by their tables and numbers, and the length of a record's line by its words. Only contracts below the entry cite this.
+-- The names in a listing by their tables and numbers, and the length of a record's line by its words and by how many bytes of its text are escaped. Only contracts below the entry cite this.
 use Rattle.std.specs.Prelude.{Bool, cond, ◌&&◌, ◌||◌, List, [], ◌∷◌, ℕ, ◌+◌, ◌*◌, leb, eqb, length, map}
 use Prim.Native.String.{String}
 use Rattle.text.specs.Basic.{ascii}

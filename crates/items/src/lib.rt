@@ -4,7 +4,7 @@
 pub mod lines;
 pub mod names;
 
-ghost use Rattle.std.specs.Prelude.{◌≡◌, true, false, cond, [], ◌∷◌, ◌+◌, ◌<◌, ◌≤◌, ◌^◌, length, set};
+ghost use Rattle.std.specs.Prelude.{◌≡◌, true, false, [], ◌∷◌, ◌+◌, ◌<◌, ◌≤◌, ◌^◌, length, set};
 ghost use Rattle.items.specs.Item.{plain_item, text, signal, signal_kind};
 ghost use Rattle.items.specs.Machine.{output, SaysIn, PutsIn, all_fit, sized, size_after, store, store_record, no_size};
 ghost use Rattle.items.specs.Entry.{RoomAfter, entry_of, plain_entry, line_of, grown_by, room_for, Emits, store_entry};

@@ -1,5 +1,5 @@
-// The lengths of the lines that list records.
-ghost use Rattle.std.specs.Prelude.{◌≡◌, ◌<◌, length};
+// The lengths of the lines that list records, and which bytes of a text are escaped in them.
+ghost use Rattle.std.specs.Prelude.{◌≡◌, length};
 ghost use Rattle.std.specs.List.{count_by};
 ghost use Rattle.items.specs.Lines.{decimal, field, is_escaped};
 ghost use Rattle.items.specs.Names.{name_at, has_number, described_length, line_length};
@@ -10,7 +10,7 @@ use super::{AGAIN, IF, MARK, RUN, TEXT};
 // The first operand of a condition on lines.
 pub const LINES: u32 = 1;
 
-// The octal digits of an escaped byte; the backslash stands for the byte.
+// How many bytes longer an escaped byte is listed: its octal digits, behind a backslash in its place.
 const OCTAL_DIGITS: u64 = 3;
 
 // How many digits a number has.
@@ -44,7 +44,7 @@ pub fn is_escaped(b: u8) -> bool
     b.is_ascii_control() | (b == b'\\')
 }
 
-// How many bytes of a text are.
+// How many bytes of a text are escaped.
 pub fn escapes(s: &[u8]) -> usize
     ensures { result ≡ count_by is_escaped s.now }
 {

@@ -15,7 +15,7 @@ use Rattle.items.specs.Item.{always, lines, Item, text, newline, space_or_newlin
 use Rattle.items.specs.Records.{bare, with_operand, condition, stored, item_of}
 use Rattle.items.specs.Lines.{described, kind_names}
 use Rattle.items.specs.Names.{other_names, names_of, name_at}
-use Rattle.listing.specs.Shown.{stored_text, shown, Readable}
+use Rattle.listing.specs.Shown.{listed_text, shown, Readable}
 
 -- A record shows item x.
 pub record Shows (ts : List ℕ) (k a b : ℕ) (x : Item) : Type 0 where
@@ -49,7 +49,7 @@ module _ (ts : List ℕ) (k a b : ℕ) (x : Item) where
   counting j f h e r = only j (f a) (eqb b 0) h e r
 
   text-shows : stored ts a b ≡ some x → Shows ts 1 a b x
-  unfolding shown stored_text kind_names other_names names_of name_at described
+  unfolding shown listed_text kind_names other_names names_of name_at described
   text-shows h = go (leb (a + b) (length ts)) refl h
     where
       go : (t : Bool) → leb (a + b) (length ts) ≡ t → cond t (some (text (take b (drop a ts)))) none ≡ some x → Shows ts 1 a b x

@@ -11,14 +11,14 @@ use Rattle.text.specs.Basic.{ascii}
 use Rattle.items.specs.Lines.{field, escaped}
 use Rattle.items.specs.Names.{name_at, has_number}
 use Rattle.items.specs.declared.names.Table.TheVariants.{Kinds, Others}
-use Rattle.listing.specs.Shown.{stored_text, shown}
+use Rattle.listing.specs.Shown.{listed_text, shown}
 
 -- a text lies from its offset to its offset and length
 pub text-part : (ts : List ℕ) (a b : ℕ) → escaped (take b (drop a ts)) ≡ escaped (take (a + b - a) (drop a ts))
 text-part ts a b = let e : a + b - a ≡ b = omega arith in rw e
 
 module _ (ts : List ℕ) (k a b : ℕ) where
-  pub shown-text : k ≡ 1 → shown ts k a b ≡ stored_text ts a b
+  pub shown-text : k ≡ 1 → shown ts k a b ≡ listed_text ts a b
   unfolding shown
   shown-text h = rw (eq-eqb k 1 h)
 

@@ -41,6 +41,10 @@ unfolding all
 tested m [] h = ∅
 tested m (b ∷ s) h = let (x, y) = and_true (leb m b) (all (leb m) s) h in leb-true m b x ▹ tested m s y
 
+-- bytes, a space and others
+spaced : {s t : List ℕ} → Above 32 s → Above 32 t → Above 32 (s ++ (32 ∷ t))
+spaced p q = let k : 32 ≤ 32 = omega arith in all_append p (k ▹ q)
+
 -- ---- texts
 
 -- What the test of a byte says of its number.
@@ -163,7 +167,7 @@ alone : (x : Item) → read_item (described x) ≡ x → all (leb 32) (described
 alone x e h = record { told = e; above = tested 32 (described x) h }
 
 field-above : (s : List ℕ) (n : ℕ) → all (leb 32) s ≡ true → Above 32 (s ++ (32 ∷ decimal n))
-field-above s n h = let k : 32 ≤ 32 = omega arith in all_append (tested 32 s h) (k ▹ decimal-above 32 n (omega arith))
+field-above s n h = spaced (tested 32 s h) (decimal-above 32 n (omega arith))
 
 -- one that a name and a number list
 numbered : (f : ℕ → Item) (s : List ℕ) (n : ℕ) → described (f n) ≡ s ++ (32 ∷ decimal n) → read_item (s ++ (32 ∷ decimal n)) ≡ f (number (decimal n)) → all (leb 32) s ≡ true → Back (f n)
@@ -187,10 +191,9 @@ item_back : (x : Item) → Back x
 unfolding word behind read_item same_bytes name_number described kind_names plain_item all
 item_back (text s) =
     let n = length s in
-    let k : 32 ≤ 32 = omega arith in
     record {
       told = rw (number_is n (space (escaped s)), behind_is (escaped s) (decimal-above 33 n (omega arith)), text-back s) refl;
-      above = all_append (field-above (ascii "text") n refl) (k ▹ escaped-above s);
+      above = spaced (field-above (ascii "text") n refl) (escaped-above s);
     }
 item_back (signal s) = signal-back s
 item_back (mark n) = numbered mark (ascii "mark") n refl refl refl
@@ -217,7 +220,7 @@ abbrev body : ℕ → Item → List ℕ
 body n x = decimal n ++ (32 ∷ described x)
 
 body-above : (n : ℕ) (x : Item) → Above 32 (body n x)
-body-above n x = let k : 32 ≤ 32 = omega arith in all_append (decimal-above 32 n (omega arith)) (k ▹ (item_back x).above)
+body-above n x = spaced (decimal-above 32 n (omega arith)) (item_back x).above
 
 body-ends : (n : ℕ) (x : Item) (r : List ℕ) → record_line n x ++ r ≡ body n x ++ (10 ∷ r)
 body-ends n x r = simp append_assoc
@@ -256,27 +259,26 @@ unfolding head_line all
 head_line_lem c = (
   _,
   four_fields (field "records" c.records) (field "texts" c.texts) (field "runs" c.runs) (field "marks" c.marks),
-  all_append (field-above (ascii "records") c.records refl) (k ▹ all_append (field-above (ascii "texts") c.texts refl) (k ▹ all_append (field-above (ascii "runs") c.runs refl) (k ▹ field-above (ascii "marks") c.marks refl))),
+  spaced (field-above (ascii "records") c.records refl) (spaced (field-above (ascii "texts") c.texts refl) (spaced (field-above (ascii "runs") c.runs refl) (field-above (ascii "marks") c.marks refl))),
 )
-  where
-    k : 32 ≤ 32
-    k = omega arith
+
+-- a listing is its first line, a line end and the lines of records
+parted : (xs : List Item) → (l : List ℕ) × (listing xs ≡ l ++ (10 ∷ record_lines 0 xs)) × Above 32 l
+unfolding listing
+parted xs =
+    let (l, e, p) = head_line_lem (counts_of xs) in
+    (l, rw (e, append_assoc l (10 ∷ []) (record_lines 0 xs)) refl, p)
 
 -- ---- listings
 
 -- the items of a listing are read back from it
 pub unlisted_is : (xs : List Item) → unlisted (listing xs) ≡ xs
-unfolding unlisted listing
-unlisted_is xs =
-    let (l, e, p) = head_line_lem (counts_of xs) in
-    rw (e, append_assoc l (10 ∷ []) (record_lines 0 xs), line_is (record_lines 0 xs) p) (lines-back 0 xs)
+unfolding unlisted
+unlisted_is xs = let (l, e, p) = parted xs in rw (e, line_is (record_lines 0 xs) p) (lines-back 0 xs)
 
 -- a listing has a line for each record, whatever its texts hold, and one before them
 pub line-each : (xs : List Item) → count 10 (listing xs) ≡ suc (length xs)
-unfolding listing
-line-each xs =
-    let (l, e, p) = head_line_lem (counts_of xs) in
-    rw (e, append_assoc l (10 ∷ []) (record_lines 0 xs), one-end (record_lines 0 xs) p) (ap suc (lines-counted 0 xs))
+line-each xs = let (l, e, p) = parted xs in rw (e, one-end (record_lines 0 xs) p) (ap suc (lines-counted 0 xs))
 
 -- A text ends with LF.
 record Closed (s : List ℕ) : Type 0 where
@@ -299,7 +301,7 @@ count-front : (n : ℕ) (f : List ℕ) → count 10 (take n f) < count 10 (f ++ 
 unfolding count
 count-front n f = omega (arith, count-append 10 f (10 ∷ []), count-append 10 (take n f) (drop n f), ap (count 10) (take-append-drop n f))
 
--- a listing that was cut short has fewer lines than its first line tells
+-- a listing that was cut short has fewer lines behind its first than that tells records
 pub cut_short : (xs : List Item) (n : ℕ) → n < length (listing xs) → count 10 (take n (listing xs)) ≤ length xs
 unfolding listing
 cut_short xs n h =

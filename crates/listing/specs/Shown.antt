@@ -7,13 +7,13 @@ use Rattle.items.specs.declared.names.Table.TheVariants.{Kinds, Others}
 use Rattle.items.specs.Records.{record_size}
 
 -- 'for text, the length and the text', by its offset and length
-unfoldable pub stored_text : List ℕ → ℕ → ℕ → List ℕ
-stored_text ts a b = field (name_at Kinds 1) b ++ (32 ∷ escaped (take b (drop a ts)))
+unfoldable pub listed_text : List ℕ → ℕ → ℕ → List ℕ
+listed_text ts a b = field (name_at Kinds 1) b ++ (32 ∷ escaped (take b (drop a ts)))
 
 -- a record's kind and operands
 unfoldable pub shown : List ℕ → ℕ → ℕ → ℕ → List ℕ
 shown ts k a b =
-    cond (eqb k 1) (stored_text ts a b)
+    cond (eqb k 1) (listed_text ts a b)
     (cond (eqb k 15 && eqb a 1) (field (name_at Others 0) b)
     (cond (has_number k) (field (name_at Kinds k) a)
     (ascii (name_at Kinds k))))

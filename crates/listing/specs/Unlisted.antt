@@ -1,5 +1,5 @@
 -- A listing read back. Document 02, Ask 2: 'Equal listings must then mean equal records and texts.'
-use Rattle.std.specs.Prelude.{cond, List, [], ◌∷◌, ℕ, zero, suc, ◌+◌, ◌*◌, ◌-◌, eqb, drop}
+use Rattle.std.specs.Prelude.{cond, List, [], ◌∷◌, ℕ, zero, suc, ◌+◌, ◌*◌, ◌-◌, eqb, drop, get_or}
 use Prim.Native.String.{String}
 use Rattle.text.specs.Basic.{ascii, same_bytes}
 use Rattle.text.specs.Text.{lines as lines_of}
@@ -29,12 +29,9 @@ number s = value_from 0 (word s)
 
 -- ---- texts
 
--- a byte by its three octal digits
+-- a byte by the three octal digits in front of s
 abbrev pub octal_value : List ℕ → ℕ
-octal_value [] = 0
-octal_value (x ∷ []) = 0
-octal_value (x ∷ y ∷ []) = 0
-octal_value (x ∷ y ∷ z ∷ s) = (x - 48) * 64 + (y - 48) * 8 + (z - 48)
+octal_value s = (get_or s 0 0 - 48) * 64 + (get_or s 1 0 - 48) * 8 + (get_or s 2 0 - 48)
 
 -- a text of n bytes by what lists it: a backslash and three octal digits are a byte, and so is any other byte
 unfoldable pub unescaped : ℕ → List ℕ → List ℕ

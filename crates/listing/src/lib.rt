@@ -7,7 +7,7 @@ ghost use Rattle.items.specs.Lines.{decimal, field, octal, escaped_byte, escaped
 ghost use Rattle.items.specs.Names.{names_of, name_at};
 ghost use Rattle.listing.specs.Listing.{head_line, listing, refused_line};
 ghost use Rattle.listing.specs.Writes.{WritesIn, WritesOn, Room};
-ghost use Rattle.listing.specs.Shown.{stored_text, shown, Readable, Line, line_at, lines_from};
+ghost use Rattle.listing.specs.Shown.{listed_text, shown, Readable, Line, line_at, lines_from};
 ghost use Rattle.listing.specs.Listable.{items_in, Listable};
 
 use items::lines::{LINES, field_length, has_number, is_escaped};
@@ -129,8 +129,8 @@ impl<'a> Sheet<'a> {
     // Writes a text by its offset and length.
     fn put_text(&mut self, texts: &[u8], offset: u32, bytes: u32)
         requires inside { offset + bytes ≤ length texts.now }
-        requires room { Room (stored_text texts.now offset bytes) self.old.at }
-        ensures { WritesOn self (stored_text texts.now offset bytes) }
+        requires room { Room (listed_text texts.now offset bytes) self.old.at }
+        ensures { WritesOn self (listed_text texts.now offset bytes) }
     {
         let start = offset as usize;
         let end = start + (bytes as usize);

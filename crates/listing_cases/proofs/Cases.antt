@@ -14,14 +14,14 @@ use Rattle.items.proofs.Lengths.{lines-short}
 use Rattle.listing.specs.Listable.{Listable}
 use Rattle.listing.proofs.Listable.{listable}
 
--- the counts of one text
-abbrev pub one_text : ℕ → Count
-one_text n = record { records = 1; texts = n; runs = 0; marks = 0 }
+-- the counts of a text of so many bytes
+abbrev one_text : Count
+one_text = record { records = 1; texts = 256; runs = 0; marks = 0 }
 
-pub text-listable : (ts : List ℕ) → length ts ≡ 256 → Listable (1 ∷ 0 ∷ 256 ∷ []) ts (one_text 256)
+pub text-listable : (ts : List ℕ) → length ts ≡ 256 → Listable (1 ∷ 0 ∷ 256 ∷ []) ts one_text
 unfolding bytes decoded item_of sum
 text-listable ts h =
     let t : take 256 ts ≡ ts = take_all 256 ts (omega (arith, h)) in
     let s : All Short (text ts ∷ []) = ◌▹◌ {x = text ts} (omega arith, omega (arith, h)) ∅ in
     let l = lines-short 0 s (omega arith) in
-    listable (1 ∷ 0 ∷ 256 ∷ []) ts (one_text 256) (text ts ∷ []) (rw (h, t) refl) (rw (append-nil ts, h) refl) (omega (arith, h, l, ap length (append-nil ts)))
+    listable (1 ∷ 0 ∷ 256 ∷ []) ts one_text (text ts ∷ []) (rw (h, t) refl) (rw (append-nil ts, h) refl) (omega (arith, h, l, ap length (append-nil ts)))
