@@ -188,14 +188,15 @@ pub fn put_byte(buf: &mut [u8], at: usize, b: u8)
     put(buf, at, b);
 }
 
-// Stores the bytes of s from place at on, as far as there is room.
+// Stores the bytes of s from place at on, as far as there is room. By `copy_from_slice` the archive for C would need `memmove` and `memcpy` from
+// outside.
 pub fn put_bytes(buf: &mut [u8], at: usize, s: &[u8])
     requires { at + length s.now < 2 ^ 64 }
     ensures { buf.new ≡ store buf.old at s.now }
 {
     let end = buf.len().min(at + s.len());
-    if at < end {
-        buf[at..end].copy_from_slice(&s[..end - at]);
+    for i in at..end {
+        buf[i] = s[i - at];
     }
 }
 

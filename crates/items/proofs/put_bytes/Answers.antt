@@ -1,8 +1,11 @@
-use Rattle.items.proofs.Stores.{copied, uncopied}
+use Rattle.items.proofs.Stores.{storing_none, storing_more, storing_all}
 use Rattle.items.proofs.put_bytes.Goals as goal
 
-pub returns-then-at-end : goal.returns-then-at-end
-returns-then-at-end c = copied _ _ _ c.min-end.ensures c.if-at-end.true c.copy_from_slice.ensures.after
+pub loop-i-init : goal.loop-i-init
+loop-i-init c = search storing_none
 
-pub returns-else-at-end : goal.returns-else-at-end
-returns-else-at-end c = uncopied _ _ _ c.min-end.ensures c.if-at-end.false
+pub loop-i-preserved : goal.loop-i-preserved
+loop-i-preserved c = search storing_more
+
+pub returns : goal.returns
+returns c = search storing_all
