@@ -139,11 +139,11 @@ placed-notes : {index image : List ℕ} {a b from to : ℕ} → Region image ind
 placed-notes {a = a} {b = b} r p q n e = let z : record { from = a; to = b } ≡ n = cc in rw (← z) (record { begins = p; ends = q; region = r })
 
 module _ {index image : List ℕ} {a b : ℕ} {f : std.Option Element} (e : found f ≡ foreign_in (parts_from image index a b)) where
-  pub strict-stopped : {x : Element} → f ≡ Some x → Beside image index (strict (parts_from image index a b)) a b (Err x)
-  strict-stopped i = record { read = strict_is _ ∙ rw (← e, i) refl; placed = λ n k. absurd (let z : ◌≡◌ {A = ℕ} 0 1 = cc in omega arith) }
+  pub strict-stopped : Region image index a b → {x : Element} → f ≡ Some x → Beside image index (strict (parts_from image index a b)) a b (Err x)
+  strict-stopped r i = record { region = r; read = strict_is _ ∙ rw (← e, i) refl; placed = λ n k. absurd (let z : ◌≡◌ {A = ℕ} 0 1 = cc in omega arith) }
 
   pub strict-whole : Region image index a b → f ≡ None → Beside image index (strict (parts_from image index a b)) a b (Ok (record { from = a; to = b }))
-  strict-whole r i = record { read = strict_is _ ∙ rw (← e, i) refl; placed = placed-notes r refl refl }
+  strict-whole r i = record { region = r; read = strict_is _ ∙ rw (← e, i) refl; placed = placed-notes r refl refl }
 
 pub foreign-found : (xs : List Part) → number_of (same (find (λ x. not (is_kept x.kind)) xs)) ≡ foreign_in xs
 unfolding foreign_in
@@ -232,12 +232,13 @@ module _ {index image : List ℕ} {a b : ℕ} {e : std.Option Element} (E : Ends
   module _ (q : e ≡ None) where
     pub before-none : {to : ℕ} → Led image index a b to → (x : Option Part) → number_of x ≡ found e → Beside image index (trivia_before x (parts_from image index a b)) a (before_to index (found e) a (parts_from image index a b)) (Ok (record { from = a; to = to }))
     unfolding trivia_before
-    before-none l none p = record { read = rw l.read; placed = placed-notes l.region refl (rw q l.ends) }
+    before-none l none p = record { region = rw (q, ← l.ends) l.region; read = rw l.read; placed = placed-notes l.region refl (rw q l.ends) }
     before-none l (some x) p = let z : ◌≡◌ {A = ℕ} 0 1 = cc in absurd (omega arith)
 
     pub after_none : (x : Option Part) → number_of x ≡ found e → Beside image index (trivia_after x (parts_from image index a b)) (from_at index (found e) b) b (Ok (record { from = b; to = b }))
     unfolding trivia_after all_of
     after_none none p = record {
+      region = rw q (record { n = E.region.n; table = E.region.table; begins = E.region.ends; ends = E.region.ends });
       read = rw (parts-over index image b b (omega arith));
       placed = placed-notes (record { n = E.region.n; table = E.region.table; begins = E.region.ends; ends = E.region.ends }) (rw q) refl;
     }

@@ -65,8 +65,9 @@ pub record Placed (image index : List ℕ) (from to : ℕ) (n : Notes) : Type 0 
   pub ends : n.to ≡ to
   pub region : Region image index n.from n.to
 
--- r is what x gives, which stands between two places.
+-- r is what x gives, which stands between two places, also where an element stops it.
 pub record Beside (image index : List ℕ) (x : Around) (from to : ℕ) (r : Result Notes Element) : Type 0 where
+  pub region : Region image index from to
   pub read : x ≡ around_by image index r
   pub placed : (n : Notes) → r ≡ Ok n → Placed image index from to n
 
